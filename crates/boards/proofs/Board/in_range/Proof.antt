@@ -1,0 +1,9 @@
+-- The definition composes what the callees promise. Assumes nothing.
+use Rattle.rules.proofs.Picks.{picks}
+use Rattle.boards.specs.Range.{inRange}
+use Rattle.boards.proofs.Board.in_range.Statement.{statement}
+use Rattle.boards.proofs.Board.in_range.Tie as tie
+
+pub in-range-spec : {M : Type 1} → statement M
+unfolding inRange
+in-range-spec = tie.close (tie.spec (λ c κs. search picks) (λ c κs. search picks) (λ c κs. search picks) (λ c. cc))

@@ -1,0 +1,13 @@
+-- The byte at the place, under the refusals that come first. Assumes nothing.
+use Rattle.rules.proofs.Picks.{picks}
+use Rattle.boards.specs.Read.{read}
+use Rattle.boards.proofs.Board.read.Statement.{statement}
+use Rattle.boards.proofs.Board.read.Tie as tie
+
+pub read-spec : {M : Type 1} → statement M
+unfolding read
+read-spec =
+    tie.close
+    (tie.spec
+    (λ c κs. search picks) (λ c κs. search picks) (λ c κs. search picks) (λ c κs. search picks) (λ c κs. search picks)
+    (λ c κs. search picks) (λ c. cc))

@@ -1,0 +1,6 @@
+pub mod Start
+pub mod Range
+pub mod Read
+pub mod Write
+pub mod Clock
+pub mod Runs

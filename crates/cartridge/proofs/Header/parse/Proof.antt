@@ -1,0 +1,9 @@
+-- The definition composes what the callees promise. Assumes nothing.
+use Rattle.rules.proofs.Picks.{picks}
+use Rattle.cartridge.specs.Header.{headerRead}
+use Rattle.cartridge.proofs.Header.parse.Statement.{statement}
+use Rattle.cartridge.proofs.Header.parse.Tie as tie
+
+pub parse-spec : {M : Type 1} → statement M
+unfolding headerRead
+parse-spec = tie.close (tie.spec (λ c κs. search picks) (λ c κs. search picks) (λ c κs. search picks) (λ c. cc))

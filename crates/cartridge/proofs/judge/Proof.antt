@@ -1,0 +1,9 @@
+-- The definition composes what the callees promise. Assumes nothing.
+use Rattle.rules.proofs.Picks.{picks}
+use Rattle.cartridge.specs.Load.{verdict}
+use Rattle.cartridge.proofs.judge.Statement.{statement}
+use Rattle.cartridge.proofs.judge.Tie as tie
+
+pub judge-spec : {M : Type 1} → statement M
+unfolding verdict
+judge-spec = tie.close (tie.spec (λ c κs. search picks) (λ c κs. search picks) (λ c κs. search picks) (λ c. cc))

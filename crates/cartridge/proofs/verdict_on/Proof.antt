@@ -1,0 +1,13 @@
+-- The definition composes what the callees promise. Assumes nothing.
+use Rattle.rules.proofs.Picks.{picks}
+use Rattle.cartridge.specs.Load.{verdictOn}
+use Rattle.cartridge.proofs.verdict_on.Statement.{statement}
+use Rattle.cartridge.proofs.verdict_on.Tie as tie
+
+pub verdict-on-spec : {M : Type 1} → statement M
+unfolding verdictOn
+verdict-on-spec =
+    tie.close
+    (tie.spec
+    (λ c κs. search picks) (λ c. search picks) (λ c. search picks) (λ c κs. search picks) (λ c. search picks)
+    (λ c κs. search picks) (λ c κs. search picks) (λ c κs. search picks) (λ c κs. search picks) (λ c. cc))

@@ -1,0 +1,142 @@
+-- The load: what it accepts, in the order of its refusals, and what it leaves.
+use Prim.Native.Nat.{ℕ, _+_, _-_, _*_}
+use mathlib.Core.Path.{_≡_}
+use mathlib.Core.Bool.{Bool, true, false, cond, not, _&&_, _||_}
+use mathlib.Core.List.{List}
+use lib.Dec.{ltb, leb, eqb}
+use lib.ListN.{length, replicate}
+use Rattle.common.specs.Common.{KB8, KB16}
+use Rattle.common.specs.declared.Mode.{Mode}
+use Rattle.common.specs.declared.Mode.the-variants.{House, Board}
+use Rattle.memory.specs.Memory.{tail}
+use Rattle.cartridge.specs.Answers.{mapperNumber}
+use Rattle.cartridge.specs.Header.{isInes, headerOf, mapperOf, mirroringOf, isNes2, isSpecial}
+use Rattle.cartridge.specs.declared.Header.{Header}
+use Rattle.cartridge.specs.declared.Cartridge.{Cartridge}
+use Rattle.cartridge.specs.declared.Refusal.the-variants.{ImageNotInes, MapperNotTaken, TrainerOrFourScreen, PrgCountNotTaken, ImageTooShort, CountNoPowerOfTwo, RamNot8K}
+use Rattle.cartridge.specs.declared.Mirroring.{Mirroring}
+use Rattle.cartridge.specs.declared.Mirroring.the-variants.{Horizontal, Vertical, SingleScreenUpper, SingleScreenLower}
+use Rattle.cartridge.specs.declared.MapperType.{MapperType}
+use Rattle.cartridge.specs.declared.MapperType.the-variants.{Nrom, Mmc1, Uxrom, Cnrom, Mmc3}
+use Rattle.cartridge.specs.declared.Verdict.{Verdict}
+use Rattle.cartridge.specs.declared.Verdict.the-variants.{Take, Refuse}
+use Rattle.cartridge.specs.declared.Loaded.{Loaded}
+use Rattle.cartridge.specs.declared.Loaded.the-variants.{Accepted, Refused}
+
+-- "a list of the powers of two from 1 to 128"
+unfoldable pub isPower : ℕ → Bool
+isPower n = eqb 1 n || eqb 2 n || eqb 4 n || eqb 8 n || eqb 16 n || eqb 32 n || eqb 64 n || eqb 128 n
+
+-- refusal 6: "PRG count 0; or above 2 for mappers 0 and 3"
+unfoldable pub badPrg : ℕ → ℕ → Bool
+badPrg mapper prg = eqb prg 0 || ((eqb mapper 0 || eqb mapper 3) && ltb 2 prg)
+
+-- refusal 7: "16 + 16,384 x PRG + 8,192 x CHR"
+abbrev pub needed : ℕ → ℕ → ℕ
+needed prg chr = 16 + prg * KB16 + chr * KB8
+
+-- refusal 8, board mode: "PRG count, or a nonzero CHR count, is no power of two"
+unfoldable pub oddCounts : Mode → ℕ → ℕ → Bool
+oddCounts House prg chr = false
+oddCounts Board prg chr = not (isPower prg) || (not (eqb chr 0) && not (isPower chr))
+
+-- "Order in load: 9, 3, 4, 5, 6, 7, 8"
+unfoldable pub firstOf : Bool → Bool → Bool → Bool → Bool → Bool → Bool → Verdict
+firstOf b9 b3 b4 b5 b6 b7 b8 =
+    cond b9 (Refuse RamNot8K)
+    (cond b3 (Refuse ImageNotInes)
+    (cond b4 (Refuse MapperNotTaken)
+    (cond b5 (Refuse TrainerOrFourScreen)
+    (cond b6 (Refuse PrgCountNotTaken)
+    (cond b7 (Refuse ImageTooShort)
+    (cond b8 (Refuse CountNoPowerOfTwo) Take))))))
+
+-- when each refusal is given: the table "Numbers of refusal", rows 3 to 9
+unfoldable pub verdictOn : Header → Bool → ℕ → Mode → Bool → Verdict
+verdictOn h ines len mode rams =
+    firstOf
+    (not rams)
+    (ltb len 16400 || not ines)
+    (ltb 4 (mapperOf h))
+    (isSpecial h)
+    (badPrg (mapperOf h) (h .prg))
+    (ltb len (needed (h .prg) (h .chr)))
+    (oddCounts mode (h .prg) (h .chr))
+
+-- refusal 9: "a lent RAM is not exactly 8,192 bytes"
+unfoldable pub verdict : List ℕ → Mode → ℕ → ℕ → Verdict
+verdict s mode prg chr = verdictOn (headerOf s) (isInes s) (length s) mode (eqb prg 8192 && eqb chr 8192)
+
+-- the board of a mapper number up to 4
+unfoldable pub mapperType : ℕ → MapperType
+mapperType n = cond (eqb n 0) Nrom (cond (eqb n 1) Mmc1 (cond (eqb n 2) Uxrom (cond (eqb n 3) Cnrom Mmc3)))
+
+-- what an accepted load keeps of the image
+unfoldable pub cartridgeOf : Header → Mode → ℕ → Cartridge
+cartridgeOf h mode len =
+    record {
+      mode = mode;
+      mapper = mapperType (mapperOf h);
+      nes2 = isNes2 h;
+      mirroring = mirroringOf h;
+      prg = h .prg;
+      chr = h .chr;
+      length = len;
+    }
+
+-- "A refusal yields its number only"
+unfoldable pub loadedAs : Verdict → Cartridge → Loaded
+loadedAs Take c = Accepted c
+loadedAs (Refuse why) c = Refused why
+
+-- "An accepted load fills both RAMs with zero"; after a refusal "every lent buffer holds what it held"
+unfoldable pub ramAfter : Verdict → List ℕ → List ℕ
+ramAfter Take ram = replicate (length ram) 0
+ramAfter (Refuse why) ram = ram
+
+-- what a load owes its caller: the reply and both RAMs
+pub record LoadOwes (s : List ℕ) (mode : Mode) (prg chr : List ℕ) (r : Loaded) (prg′ chr′ : List ℕ) : Type 0 where
+  pub reply : r ≡ loadedAs (verdict s mode (length prg) (length chr)) (cartridgeOf (headerOf s) mode (length s))
+  pub prg-ram : prg′ ≡ ramAfter (verdict s mode (length prg) (length chr)) prg
+  pub chr-ram : chr′ ≡ ramAfter (verdict s mode (length prg) (length chr)) chr
+
+-- "Byte 4 counts 16,384-byte PRG blocks"
+abbrev pub prgTotal : Cartridge → ℕ
+prgTotal c = c .prg * KB16
+
+-- the last 16 KB bank
+unfoldable pub lastPrg : Cartridge → ℕ
+lastPrg c = c .prg - 1
+
+-- "CHR count 0 means 8,192 bytes of CHR RAM"
+abbrev pub hasChrRam : Cartridge → Bool
+hasChrRam c = eqb (c .chr) 0
+
+unfoldable pub chrTotal : Cartridge → ℕ
+chrTotal c = cond (hasChrRam c) KB8 (c .chr * KB8)
+
+-- "The PRG data begins at byte 16 and is handed on as part of the lent image"
+unfoldable pub prgRom : List ℕ → List ℕ
+prgRom image = tail image 16
+
+-- "CHR follows it"
+unfoldable pub chrRom : Cartridge → List ℕ → List ℕ
+chrRom c image = tail image (16 + prgTotal c)
+
+-- the mirrorings that byte 6 can ask for
+abbrev pub isHeaders : Mirroring → Bool
+isHeaders Horizontal = true
+isHeaders Vertical = true
+isHeaders SingleScreenUpper = false
+isHeaders SingleScreenLower = false
+
+-- CHR RAM where there is any, else the CHR data of the image
+unfoldable pub chrData : Cartridge → List ℕ → List ℕ → List ℕ
+chrData c image ram = cond (hasChrRam c) ram (chrRom c image)
+
+-- state ranges: "Mapper, counts, length and mirroring as a load could leave them"
+unfoldable pub couldLoad : Cartridge → Bool
+couldLoad c =
+    (not (badPrg (mapperNumber (c .mapper)) (c .prg)) && not (oddCounts (c .mode) (c .prg) (c .chr)))
+    && (ltb (c .prg) 256 && ltb (c .chr) 256 && leb (needed (c .prg) (c .chr)) (c .length))
+    && isHeaders (c .mirroring)

@@ -1,0 +1,16 @@
+-- What stands in lent bytes.
+use Prim.Native.Nat.{ℕ}
+use mathlib.Core.List.{List}
+use lib.ListN.{getD, take, drop}
+
+-- the byte at a place, 0 past the end
+abbrev pub byte : List ℕ → ℕ → ℕ
+byte s i = getD s i 0
+
+-- the data from a place on
+abbrev pub tail : List ℕ → ℕ → List ℕ
+tail s a = drop a s
+
+-- size bytes from a place on
+abbrev pub part : List ℕ → ℕ → ℕ → List ℕ
+part s a size = take size (drop a s)

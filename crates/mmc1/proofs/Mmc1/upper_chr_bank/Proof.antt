@@ -1,0 +1,13 @@
+-- The definition composes what the callees promise. Assumes nothing.
+use Rattle.rules.proofs.Picks.{picks}
+use Rattle.mmc1.specs.Read.{upperChrBank}
+use Rattle.mmc1.proofs.Mmc1.upper_chr_bank.Statement.{statement}
+use Rattle.mmc1.proofs.Mmc1.upper_chr_bank.Tie as tie
+
+pub upper-chr-bank-spec : {M : Type 1} → statement M
+unfolding upperChrBank
+upper-chr-bank-spec =
+    tie.close
+    (tie.spec
+    (λ c κs. search picks) (λ c κs. search picks) (λ c κs. search picks) (λ c κs. search picks) (λ c κs. search picks)
+    (λ c. cc))

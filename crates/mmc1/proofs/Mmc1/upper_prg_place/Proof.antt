@@ -1,0 +1,9 @@
+-- The definition composes what the callees promise. Assumes nothing.
+use Rattle.rules.proofs.Picks.{picks}
+use Rattle.mmc1.specs.Read.{upperPrgPlace}
+use Rattle.mmc1.proofs.Mmc1.upper_prg_place.Statement.{statement}
+use Rattle.mmc1.proofs.Mmc1.upper_prg_place.Tie as tie
+
+pub upper-prg-place-spec : {M : Type 1} → statement M
+unfolding upperPrgPlace
+upper-prg-place-spec = tie.close (tie.spec (λ c κs. search picks) (λ c κs. search picks) (λ c κs. search picks) (λ c. cc))

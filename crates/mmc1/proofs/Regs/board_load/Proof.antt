@@ -1,0 +1,13 @@
+-- By the four registers. Assumes nothing.
+use Rattle.rules.proofs.Picks.{picks}
+use Rattle.mmc1.specs.Write.{boardLoad}
+use Rattle.mmc1.proofs.Regs.board_load.Statement.{statement}
+use Rattle.mmc1.proofs.Regs.board_load.Tie as tie
+
+pub board-load-spec : {M : Type 1} → statement M
+unfolding boardLoad
+board-load-spec =
+    tie.close
+    (tie.spec
+    (λ c. search picks) (λ c κs. search picks) (λ c. search picks) (λ c κs. search picks) (λ c. search picks)
+    (λ c κs. search picks) (λ c. search picks) (λ c κs. search picks) (λ c. cc) (λ c. cc) (λ c. cc) (λ c. cc))

@@ -1,0 +1,13 @@
+-- By the four registers. Assumes nothing.
+use Rattle.rules.proofs.Picks.{picks}
+use Rattle.mmc1.specs.Write.{houseLoad}
+use Rattle.mmc1.proofs.Regs.house_load.Statement.{statement}
+use Rattle.mmc1.proofs.Regs.house_load.Tie as tie
+
+pub house-load-spec : {M : Type 1} → statement M
+unfolding houseLoad
+house-load-spec =
+    tie.close
+    (tie.spec
+    (λ c. search picks) (λ c κs. search picks) (λ c. search picks) (λ c κs. search picks) (λ c. search picks)
+    (λ c κs. search picks) (λ c. search picks) (λ c κs. search picks) (λ c. cc) (λ c. cc) (λ c. cc) (λ c. cc))

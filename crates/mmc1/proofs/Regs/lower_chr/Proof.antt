@@ -1,0 +1,12 @@
+-- The branches decide the tests of the definition. Assumes nothing.
+use Rattle.rules.proofs.Picks.{picks}
+use Rattle.mmc1.specs.Read.{lowerChr}
+use Rattle.mmc1.proofs.Regs.lower_chr.Statement.{statement}
+use Rattle.mmc1.proofs.Regs.lower_chr.Tie as tie
+
+pub lower-chr-spec : {M : Type 1} → statement M
+unfolding lowerChr
+lower-chr-spec =
+    tie.close
+    (tie.spec
+    (λ c κs. search picks) (λ c. search picks) (λ c. search picks) (λ c. search picks) (λ c. search picks))

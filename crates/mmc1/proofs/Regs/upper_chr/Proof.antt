@@ -1,0 +1,14 @@
+-- The branches decide the tests of the definition. Assumes nothing.
+use Rattle.rules.proofs.Picks.{picks}
+use Rattle.mmc1.specs.Read.{upperChr}
+use Rattle.mmc1.proofs.Regs.upper_chr.Statement.{statement}
+use Rattle.mmc1.proofs.Regs.upper_chr.Tie as tie
+
+pub upper-chr-spec : {M : Type 1} → statement M
+unfolding upperChr
+upper-chr-spec =
+    tie.close
+    (tie.spec
+    (λ c κs. search picks) (λ c. search picks) (λ c. search picks) (λ c. search picks)
+    (λ c. search (picks, c .chr-pair .ensures))
+    (λ c. search picks))

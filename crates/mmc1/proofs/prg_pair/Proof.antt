@@ -1,0 +1,9 @@
+-- By the two modes. Assumes nothing.
+use Rattle.rules.proofs.Picks.{picks}
+use Rattle.mmc1.specs.Read.{prgPair}
+use Rattle.mmc1.proofs.prg_pair.Statement.{statement}
+use Rattle.mmc1.proofs.prg_pair.Tie as tie
+
+pub prg-pair-spec : {M : Type 1} → statement M
+unfolding prgPair
+prg-pair-spec = tie.close (tie.spec (λ c. search picks) (λ c. search picks) (λ c. search picks) (λ c. cc) (λ c. cc))

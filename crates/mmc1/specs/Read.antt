@@ -1,0 +1,92 @@
+-- MMC1: where a read and a write land.
+use Prim.Native.Nat.{ℕ, _+_, _-_, _*_, _/_}
+use mathlib.Core.Bool.{cond}
+use mathlib.Core.List.{List}
+use lib.Dec.{ltb, eqb}
+use Rattle.common.specs.Common.{KB4, KB16}
+use Rattle.common.specs.declared.Mode.{Mode}
+use Rattle.common.specs.declared.Mode.the-variants.{House, Board}
+use Rattle.banks.specs.Banks.{bankStart, bankOf}
+use Rattle.cartridge.specs.Load.{lastPrg, prgTotal, chrTotal, prgRom, chrData}
+use Rattle.cartridge.specs.declared.Cartridge.{Cartridge}
+use Rattle.places.specs.Places.{prgPlace, chrPlace, housePpuWrite}
+use Rattle.places.specs.declared.Place.{Place}
+use Rattle.places.specs.declared.Place.the-variants.{PrgRam, Zero}
+use Rattle.mmc1.specs.declared.Regs.{Regs}
+use Rattle.mmc1.specs.declared.Mmc1.{Mmc1}
+
+-- PRG modes 0 and 1, house: "p/2 .. with p halved down"; board: "clear p's low bit and show that bank and the next"
+unfoldable pub prgPair : Mode → ℕ → ℕ
+prgPair House p = p / 2
+prgPair Board p = p / 2 * 2
+
+-- 8 KB CHR mode, house: "4 KB bank CHR 0"; board: "CHR 0 with its low bit clear, then the next bank"
+unfoldable pub chrPair : Mode → ℕ → ℕ
+chrPair House n = n
+chrPair Board n = n / 2 * 2
+
+-- "PRG modes 0 and 1: 16 KB banks p/2 and p/2 + 1 ..; mode 2: bank 0, then p; mode 3: p, then last"
+unfoldable pub lowerPrg : Mode → Regs → ℕ
+lowerPrg mode r = cond (ltb (r .prgmode) 2) (prgPair mode (r .prg)) (cond (eqb (r .prgmode) 2) 0 (r .prg))
+
+unfoldable pub upperPrg : Mode → Regs → ℕ → ℕ
+upperPrg mode r last = cond (ltb (r .prgmode) 2) (prgPair mode (r .prg) + 1) (cond (eqb (r .prgmode) 2) (r .prg) last)
+
+-- "PPU lower half: 4 KB bank CHR 0"
+unfoldable pub lowerChr : Mode → Regs → ℕ
+lowerChr mode r = cond (eqb (r .chrmode) 0) (chrPair mode (r .chr0)) (r .chr0)
+
+-- "Upper half: CHR 0 + 1 in 8 KB mode, else CHR 1"
+unfoldable pub upperChr : Mode → Regs → ℕ
+upperChr mode r = cond (eqb (r .chrmode) 0) (chrPair mode (r .chr0) + 1) (r .chr1)
+
+-- the places that these banks show
+unfoldable pub lowerPrgPlace : Mmc1 → Cartridge → ℕ → Place
+lowerPrgPlace m c at = prgPlace c KB16 (lowerPrg (c .mode) (m .regs)) at
+
+unfoldable pub upperPrgPlace : Mmc1 → Cartridge → ℕ → Place
+upperPrgPlace m c at = prgPlace c KB16 (upperPrg (c .mode) (m .regs) (lastPrg c)) at
+
+unfoldable pub lowerChrPlace : Mmc1 → Cartridge → ℕ → Place
+lowerChrPlace m c at = chrPlace c KB4 (lowerChr (c .mode) (m .regs)) at
+
+unfoldable pub upperChrPlace : Mmc1 → Cartridge → ℕ → Place
+upperChrPlace m c at = chrPlace c KB4 (upperChr (c .mode) (m .regs)) at
+
+-- "6000-7FFF is PRG RAM"; "Not mentioned: a read answers 0"
+unfoldable pub readPlace : Mmc1 → Cartridge → ℕ → Place
+readPlace m c a =
+    cond (ltb a 0x1000) (lowerChrPlace m c a)
+    (cond (ltb a 0x2000) (upperChrPlace m c (a - 0x1000))
+    (cond (ltb a 0x6000) Zero
+    (cond (ltb a 0x8000) (PrgRam (a - 0x6000))
+    (cond (ltb a 0xC000) (lowerPrgPlace m c (a - 0x8000))
+    (upperPrgPlace m c (a - 0xC000))))))
+
+-- house: "PPU writes go to CHR RAM unbanked"
+unfoldable pub houseWritePlace : Cartridge → ℕ → Place
+houseWritePlace c a =
+    cond (ltb a 0x2000) (housePpuWrite c a)
+    (cond (ltb a 0x6000) Zero
+    (cond (ltb a 0x8000) (PrgRam (a - 0x6000)) Zero))
+
+-- board: "CHR RAM is read and written through the banks, on all boards"
+unfoldable pub writePlaceIn : Mode → Mmc1 → Cartridge → ℕ → Place
+writePlaceIn House m c a = houseWritePlace c a
+writePlaceIn Board m c a = readPlace m c a
+
+abbrev pub writePlace : Mmc1 → Cartridge → ℕ → Place
+writePlace m c a = writePlaceIn (c .mode) m c a
+
+-- the banks themselves: "MMC1's lower and upper PRG and CHR bank functions return a sub-slice of the lent image"
+unfoldable pub lowerPrgBank : Mmc1 → Cartridge → List ℕ → List ℕ
+lowerPrgBank m c image = bankOf (prgRom image) (bankStart (c .mode) (lowerPrg (c .mode) (m .regs)) KB16 (prgTotal c)) KB16
+
+unfoldable pub upperPrgBank : Mmc1 → Cartridge → List ℕ → List ℕ
+upperPrgBank m c image = bankOf (prgRom image) (bankStart (c .mode) (upperPrg (c .mode) (m .regs) (lastPrg c)) KB16 (prgTotal c)) KB16
+
+unfoldable pub lowerChrBank : Mmc1 → Cartridge → List ℕ → List ℕ → List ℕ
+lowerChrBank m c image ram = bankOf (chrData c image ram) (bankStart (c .mode) (lowerChr (c .mode) (m .regs)) KB4 (chrTotal c)) KB4
+
+unfoldable pub upperChrBank : Mmc1 → Cartridge → List ℕ → List ℕ → List ℕ
+upperChrBank m c image ram = bankOf (chrData c image ram) (bankStart (c .mode) (upperChr (c .mode) (m .regs)) KB4 (chrTotal c)) KB4

@@ -1,0 +1,45 @@
+-- MMC3: the interrupt unit and its clock.
+use Prim.Native.Nat.{ℕ, _-_}
+use mathlib.Core.Bool.{Bool, false, cond, _&&_}
+use lib.Dec.{ltb, eqb}
+use Rattle.common.specs.declared.Mode.{Mode}
+use Rattle.common.specs.declared.Mode.the-variants.{House, Board}
+use Rattle.mmc3.specs.declared.Irq.{Irq}
+use Rattle.mmc3.specs.declared.Clocked.{Clocked}
+use Rattle.mmc3.specs.declared.Mmc3.{Mmc3}
+use Rattle.mmc3.specs.declared.Ticked.{Ticked}
+
+-- the unit with a new counter and the mark cleared, and an answer
+abbrev pub at : Irq → ℕ → Bool → Clocked
+at i n answer = record { irq = record { enabled = i .enabled; latch = i .latch; counter = n; reload = false }; answer = answer }
+
+-- house: "With the reload mark: counter becomes the latch, mark cleared, answer no. Else at counter 0: counter becomes the latch, answer is `enabled`. Else count down, answer no"
+unfoldable pub houseClock : Irq → Clocked
+houseClock i =
+    cond (i .reload) (at i (i .latch) false)
+    (cond (eqb (i .counter) 0) (at i (i .latch) (i .enabled))
+    (at i (i .counter - 1) false))
+
+-- board: "with the mark or at 0, counter becomes the latch and the mark clears, else count down"
+unfoldable pub nextCounter : Irq → ℕ
+nextCounter i = cond (i .reload) (i .latch) (cond (eqb (i .counter) 0) (i .latch) (i .counter - 1))
+
+-- board: "then yes exactly when the counter is 0 and IRQ enabled"
+unfoldable pub boardClock : Irq → Clocked
+boardClock i = at i (nextCounter i) (i .enabled && eqb (nextCounter i) 0)
+
+unfoldable pub clockIn : Mode → Irq → Clocked
+clockIn House i = houseClock i
+clockIn Board i = boardClock i
+
+-- a board with another interrupt unit
+unfoldable pub withIrq : Mmc3 → Irq → Mmc3
+withIrq m i = record { select = m .select; prgmode = m .prgmode; chrmode = m .chrmode; regs = m .regs; irq = i }
+
+-- a clock of the board is one of its unit
+unfoldable pub clocked : Mode → Mmc3 → Ticked
+clocked mode m = record { mmc3 = withIrq m (clockIn mode (m .irq) .irq); answer = clockIn mode (m .irq) .answer }
+
+-- refusal 14: "IRQ enabled, counter 0 or 1"
+abbrev pub isPending : Irq → Bool
+isPending i = i .enabled && ltb (i .counter) 2

@@ -1,0 +1,4 @@
+pub mod Clock
+pub mod Write
+pub mod Read
+pub mod Range

@@ -1,0 +1,47 @@
+-- MMC3: its start, and the ranges of its fields.
+use Prim.Native.Nat.{ℕ, _%_}
+use mathlib.Core.Bool.{Bool, false, not, _&&_}
+use mathlib.Core.List.{[], _∷_}
+use lib.Dec.{ltb, eqb}
+use Rattle.mmc3.specs.Read.{register}
+use Rattle.mmc3.specs.declared.Irq.{Irq}
+use Rattle.mmc3.specs.declared.Mmc3.{Mmc3}
+
+-- "Registers start at 0 except as said"
+unfoldable pub start : Mmc3
+start =
+    record {
+      select = 0;
+      prgmode = 0;
+      chrmode = 0;
+      regs = 0 ∷ 0 ∷ 0 ∷ 0 ∷ 0 ∷ 0 ∷ 0 ∷ 0 ∷ [];
+      irq = record { enabled = false; latch = 0; counter = 0; reload = false };
+    }
+
+unfoldable pub irqIsStart : Irq → Bool
+irqIsStart i = not (i .enabled) && eqb (i .latch) 0 && eqb (i .counter) 0 && not (i .reload)
+
+-- "A field that the board doesn't use holds its start value"
+unfoldable pub isStart : Mmc3 → Bool
+isStart m =
+    eqb (m .select) 0
+    && eqb (m .prgmode) 0
+    && eqb (m .chrmode) 0
+    && (eqb (register m 0) 0
+    && eqb (register m 1) 0
+    && eqb (register m 2) 0
+    && eqb (register m 3) 0
+    && eqb (register m 4) 0
+    && eqb (register m 5) 0
+    && eqb (register m 6) 0
+    && eqb (register m 7) 0)
+    && irqIsStart (m .irq)
+
+-- "PRG mode .. 0-1 on MMC3; CHR mode 0-1; select 0-7; R0, R1 even; R6, R7 up to 63"
+unfoldable pub fits : Mmc3 → Bool
+fits m =
+    (ltb (m .select) 8 && ltb (m .prgmode) 2 && ltb (m .chrmode) 2)
+    && eqb (register m 0 % 2) 0
+    && eqb (register m 1 % 2) 0
+    && ltb (register m 6) 64
+    && ltb (register m 7) 64

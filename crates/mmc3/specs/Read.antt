@@ -1,0 +1,89 @@
+-- MMC3: where a read and a write land.
+use Prim.Native.Nat.{ℕ, _+_, _-_, _*_, _/_, _%_}
+use mathlib.Core.Bool.{cond, _&&_}
+use mathlib.Core.List.{List, [], _∷_}
+use lib.Dec.{ltb, eqb}
+use lib.ListN.{getD}
+use Rattle.common.specs.Common.{KB1, KB8}
+use Rattle.common.specs.declared.Mode.{Mode}
+use Rattle.common.specs.declared.Mode.the-variants.{House, Board}
+use Rattle.cartridge.specs.declared.Cartridge.{Cartridge}
+use Rattle.cartridge.specs.declared.Refusal.the-variants.{IrqPending}
+use Rattle.places.specs.Places.{prgPlace, chrPlace}
+use Rattle.places.specs.declared.Place.{Place}
+use Rattle.places.specs.declared.Place.the-variants.{PrgRam, Zero, Refused}
+use Rattle.mmc3.specs.Clock.{isPending}
+use Rattle.mmc3.specs.declared.Mmc3.{Mmc3}
+
+-- a register choice: Rn, and Rn + 1
+abbrev pub R : ℕ → ℕ
+R n = n * 2
+
+abbrev pub R+1 : ℕ → ℕ
+R+1 n = n * 2 + 1
+
+-- "two rows of eight register choices, one row per CHR mode: R0, R0+1, R1, R1+1, R2, R3, R4, R5; then R2, R3, R4, R5, R0, R0+1, R1, R1+1"
+abbrev pub choices : List (List ℕ)
+choices =
+    (R 0 ∷ R+1 0 ∷ R 1 ∷ R+1 1 ∷ R 2 ∷ R 3 ∷ R 4 ∷ R 5 ∷ [])
+    ∷ (R 2 ∷ R 3 ∷ R 4 ∷ R 5 ∷ R 0 ∷ R+1 0 ∷ R 1 ∷ R+1 1 ∷ [])
+    ∷ []
+
+unfoldable pub choice : ℕ → ℕ → ℕ
+choice mode slot = getD (getD choices mode []) slot 0
+
+-- a bank register
+unfoldable pub register : Mmc3 → ℕ → ℕ
+register m k = getD (m .regs) k 0
+
+-- "CHR choices, 1 KB each"
+unfoldable pub chrBank : Mmc3 → ℕ → ℕ
+chrBank m slot = register m (choice (m .chrmode) slot / 2) + choice (m .chrmode) slot % 2
+
+-- the last of the 8 KB PRG banks, and the last but one
+unfoldable pub lastBank : Cartridge → ℕ
+lastBank c = c .prg * 2 - 1
+
+unfoldable pub lastButOne : Cartridge → ℕ
+lastButOne c = c .prg * 2 - 2
+
+-- "PRG, 8 KB each: R6, R7, last but one, last; mode 1: last but one, R7, R6, last"
+unfoldable pub prgBank : Mmc3 → Cartridge → ℕ → ℕ
+prgBank m c a =
+    cond (ltb a 0xA000) (cond (eqb (m .prgmode) 0) (register m 6) (lastButOne c))
+    (cond (ltb a 0xC000) (register m 7)
+    (cond (ltb a 0xE000) (cond (eqb (m .prgmode) 0) (lastButOne c) (register m 6))
+    (lastBank c)))
+
+unfoldable pub chrAt : Mmc3 → Cartridge → ℕ → Place
+chrAt m c a = chrPlace c KB1 (chrBank m (a / 1024)) (a % 1024)
+
+unfoldable pub prgAt : Mmc3 → Cartridge → ℕ → Place
+prgAt m c a = prgPlace c KB8 (prgBank m c a) (a % 8192)
+
+-- "6000-7FFF PRG RAM"
+unfoldable pub readPlace : Mmc3 → Cartridge → ℕ → Place
+readPlace m c a =
+    cond (ltb a 0x2000) (chrAt m c a)
+    (cond (ltb a 0x6000) Zero
+    (cond (ltb a 0x8000) (PrgRam (a - 0x6000))
+    (prgAt m c a)))
+
+-- refusal 14: "even address in E000-FFFF, IRQ enabled, counter 0 or 1"
+unfoldable pub acknowledged : Mmc3 → ℕ → Place
+acknowledged m a = cond (isPending (m .irq) && eqb (a % 2) 0) (Refused IrqPending) Zero
+
+-- house: "PPU writes do nothing, even with CHR RAM"
+unfoldable pub houseWritePlace : Mmc3 → ℕ → Place
+houseWritePlace m a =
+    cond (ltb a 0x6000) Zero
+    (cond (ltb a 0x8000) (PrgRam (a - 0x6000))
+    (cond (ltb a 0xE000) Zero (acknowledged m a)))
+
+-- board: "CHR RAM is read and written through the banks, on all boards"
+unfoldable pub writePlaceIn : Mode → Mmc3 → Cartridge → ℕ → Place
+writePlaceIn House m c a = houseWritePlace m a
+writePlaceIn Board m c a = readPlace m c a
+
+abbrev pub writePlace : Mmc3 → Cartridge → ℕ → Place
+writePlace m c a = writePlaceIn (c .mode) m c a

@@ -1,0 +1,435 @@
+// MMC3: eight bank registers, and a counter that asks for an interrupt. Ported from potatis nes/src/mappers/mmc3.rs.
+ghost use mathlib.Core.Path.{_≡_};
+ghost use Rattle.mmc3.specs.Clock.{at, houseClock, nextCounter, boardClock, clockIn, withIrq, clocked, isPending};
+ghost use Rattle.mmc3.specs.Write.{kept, selected, keptBits, stored, screens, latched, marked, switched, writtenEven, writtenOdd, written};
+ghost use Rattle.mmc3.specs.Read.{choice, register, chrBank, lastBank, lastButOne, prgBank, chrAt, prgAt, readPlace, acknowledged, houseWritePlace, writePlace};
+ghost use Rattle.mmc3.specs.Range.{start, irqIsStart, isStart, fits};
+use banks::Bank1K;
+use banks::Bank8K;
+use cartridge::Cartridge;
+use cartridge::Mirroring;
+use cartridge::Mirrors;
+use cartridge::Refusal;
+use common::Mode;
+use places::Place;
+
+// The interrupt unit.
+pub struct Irq {
+    pub enabled: bool,
+    pub latch: u8,
+    pub counter: u8,
+    pub reload: bool,
+}
+
+pub struct Mmc3 {
+    // The register that a data write goes to.
+    pub select: u8,
+    pub prgmode: u8,
+    pub chrmode: u8,
+    pub regs: [u8; 8],
+    pub irq: Irq,
+}
+
+// The unit after a clock, and whether it asks for an interrupt.
+pub struct Clocked {
+    pub irq: Irq,
+    pub answer: bool,
+}
+
+// The board after a clock, and its answer.
+pub struct Ticked {
+    pub mmc3: Mmc3,
+    pub answer: bool,
+}
+
+// The board after a write, and what the write asks of the screens.
+pub struct Wrote {
+    pub mmc3: Mmc3,
+    pub mirrors: Mirrors,
+}
+
+impl Irq {
+    fn set_to(self, counter: u8, answer: bool) -> Clocked
+        ensures { λ r. ⌜ r ≡ at self counter answer ⌝ }
+    {
+        Clocked {
+            irq: Irq {
+                enabled: self.enabled,
+                latch: self.latch,
+                counter,
+                reload: false,
+            },
+            answer,
+        }
+    }
+
+    // The Rust answers no at the clock that reloads by the mark, whatever the latch.
+    pub fn house_clock(self) -> Clocked
+        ensures { λ r. ⌜ r ≡ houseClock self ⌝ }
+    {
+        if self.reload {
+            return self.set_to(self.latch, false);
+        }
+        if self.counter == 0 {
+            self.set_to(self.latch, self.enabled)
+        } else {
+            self.set_to(self.counter - 1, false)
+        }
+    }
+
+    fn next_counter(self) -> u8
+        ensures { λ r. ⌜ r ≡ nextCounter self ⌝ }
+    {
+        if self.reload {
+            return self.latch;
+        }
+        if self.counter == 0 {
+            self.latch
+        } else {
+            self.counter - 1
+        }
+    }
+
+    // The real unit looks at the counter after it has moved.
+    pub fn board_clock(self) -> Clocked
+        ensures { λ r. ⌜ r ≡ boardClock self ⌝ }
+    {
+        let next = self.next_counter();
+        self.set_to(next, self.enabled & (next == 0))
+    }
+
+    pub fn clock(self, mode: Mode) -> Clocked
+        ensures { λ r. ⌜ r ≡ clockIn mode self ⌝ }
+    {
+        match mode {
+            Mode::House => self.house_clock(),
+            Mode::Board => self.board_clock(),
+        }
+    }
+
+    // The Rust panics at an acknowledging write while an interrupt is due.
+    fn is_pending(self) -> bool
+        ensures { λ r. ⌜ r ≡ isPending self ⌝ }
+    {
+        self.enabled & (self.counter < 2)
+    }
+
+    fn is_start(self) -> bool
+        ensures { λ r. ⌜ r ≡ irqIsStart self ⌝ }
+    {
+        !self.enabled & (self.latch == 0) & (self.counter == 0) & !self.reload
+    }
+}
+
+// Rn as 2n and Rn + 1 as 2n + 1: a row for each CHR mode, an entry for each 1 KB slot.
+const CHOICES: [[u8; 8]; 2] = [[0, 1, 2, 3, 4, 6, 8, 10], [4, 6, 8, 10, 0, 1, 2, 3]];
+
+fn choice(mode: u8, slot: u16) -> u8
+    ensures { λ r. ⌜ r ≡ choice mode slot ⌝ }
+{
+    let m = mode as usize;
+    let s = slot as usize;
+    if m < 2 {
+        if s < 8 {
+            return CHOICES[m][s];
+        }
+    }
+    0
+}
+
+// What register a data write fills decides which of its bits are kept.
+fn kept_bits(select: u8, value: u8) -> u8
+    ensures { λ r. ⌜ r ≡ keptBits select value ⌝ }
+{
+    if select < 2 {
+        value / 2 * 2
+    } else if 6 <= select {
+        value % 64
+    } else {
+        value
+    }
+}
+
+// The last 8 KB bank, and the one before it; 0 where there is none.
+fn last_bank(cart: Cartridge) -> u32
+    ensures { λ r. ⌜ r ≡ lastBank cart ⌝ }
+{
+    if cart.prg == 0 {
+        0
+    } else {
+        (cart.prg as u32) * 2 - 1
+    }
+}
+
+fn last_but_one(cart: Cartridge) -> u32
+    ensures { λ r. ⌜ r ≡ lastButOne cart ⌝ }
+{
+    if cart.prg == 0 {
+        0
+    } else {
+        (cart.prg as u32) * 2 - 2
+    }
+}
+
+fn screens(value: u8) -> Mirroring
+    ensures { λ r. ⌜ r ≡ screens value ⌝ }
+{
+    if value % 2 == 1 {
+        Mirroring::Horizontal
+    } else {
+        Mirroring::Vertical
+    }
+}
+
+// A write that asks nothing of the screens.
+fn kept(mmc3: Mmc3) -> Wrote
+    ensures { λ r. ⌜ r ≡ kept mmc3 ⌝ }
+{
+    Wrote {
+        mmc3,
+        mirrors: Mirrors::AsBefore,
+    }
+}
+
+impl Mmc3 {
+    pub fn new() -> Self
+        ensures { λ r. ⌜ r ≡ start ⌝ }
+    {
+        Mmc3 {
+            select: 0,
+            prgmode: 0,
+            chrmode: 0,
+            regs: [0, 0, 0, 0, 0, 0, 0, 0],
+            irq: Irq {
+                enabled: false,
+                latch: 0,
+                counter: 0,
+                reload: false,
+            },
+        }
+    }
+
+    pub fn is_start(self) -> bool
+        ensures { λ r. ⌜ r ≡ isStart self ⌝ }
+    {
+        let irq = self.irq;
+        let r = self.regs;
+        let banks = (r[0] == 0)
+            & (r[1] == 0)
+            & (r[2] == 0)
+            & (r[3] == 0)
+            & (r[4] == 0)
+            & (r[5] == 0)
+            & (r[6] == 0)
+            & (r[7] == 0);
+        (self.select == 0) & (self.prgmode == 0) & (self.chrmode == 0) & banks & irq.is_start()
+    }
+
+    pub fn fits(self) -> bool
+        ensures { λ r. ⌜ r ≡ fits self ⌝ }
+    {
+        let r = self.regs;
+        let modes = (self.select < 8) & (self.prgmode < 2) & (self.chrmode < 2);
+        modes & (r[0] % 2 == 0) & (r[1] % 2 == 0) & (r[6] < 64) & (r[7] < 64)
+    }
+
+    fn register(self, k: u8) -> u8
+        ensures { λ r. ⌜ r ≡ register self k ⌝ }
+    {
+        let regs = self.regs;
+        let i = k as usize;
+        if i < 8 { regs[i] } else { 0 }
+    }
+
+    // A number counted in 1 KB banks.
+    fn chr_bank(self, slot: u16) -> Bank1K
+        ensures { λ r. ⌜ r .0 ≡ chrBank self slot ⌝ }
+    {
+        let choice = choice(self.chrmode, slot);
+        Bank1K((self.register(choice / 2) as u32) + ((choice % 2) as u32))
+    }
+
+    // A number counted in 8 KB banks.
+    fn prg_bank(self, cart: Cartridge, address: u16) -> Bank8K
+        ensures { λ r. ⌜ r .0 ≡ prgBank self cart address ⌝ }
+    {
+        let regs = self.regs;
+        match address {
+            0x0000..=0x9fff => {
+                if self.prgmode == 0 {
+                    Bank8K(regs[6] as u32)
+                } else {
+                    Bank8K(last_but_one(cart))
+                }
+            }
+            0xa000..=0xbfff => Bank8K(regs[7] as u32),
+            0xc000..=0xdfff => {
+                if self.prgmode == 0 {
+                    Bank8K(last_but_one(cart))
+                } else {
+                    Bank8K(regs[6] as u32)
+                }
+            }
+            _ => Bank8K(last_bank(cart)),
+        }
+    }
+
+    fn read_chr(self, cart: Cartridge, address: u16) -> Place
+        ensures { λ r. ⌜ r ≡ chrAt self cart address ⌝ }
+    {
+        places::chr_place_1k(cart, self.chr_bank(address / 1024), address % 1024)
+    }
+
+    fn read_prg(self, cart: Cartridge, address: u16) -> Place
+        ensures { λ r. ⌜ r ≡ prgAt self cart address ⌝ }
+    {
+        places::prg_place_8k(cart, self.prg_bank(cart, address), address % 8192)
+    }
+
+    pub fn read_place(self, cart: Cartridge, address: u16) -> Place
+        ensures { λ r. ⌜ r ≡ readPlace self cart address ⌝ }
+    {
+        match address {
+            0x0000..=0x1fff => self.read_chr(cart, address),
+            0x6000..=0x7fff => Place::PrgRam((address - 0x6000) as usize),
+            0x8000..=0xffff => self.read_prg(cart, address),
+            _ => Place::Zero,
+        }
+    }
+
+    fn acknowledged(self, address: u16) -> Place
+        ensures { λ r. ⌜ r ≡ acknowledged self address ⌝ }
+    {
+        let irq = self.irq;
+        let pending = irq.is_pending() & (address % 2 == 0);
+        if pending {
+            Place::Refused(Refusal::IrqPending)
+        } else {
+            Place::Zero
+        }
+    }
+
+    fn house_write_place(self, address: u16) -> Place
+        ensures { λ r. ⌜ r ≡ houseWritePlace self address ⌝ }
+    {
+        match address {
+            0x6000..=0x7fff => Place::PrgRam((address - 0x6000) as usize),
+            0xe000..=0xffff => self.acknowledged(address),
+            _ => Place::Zero,
+        }
+    }
+
+    pub fn write_place(self, cart: Cartridge, address: u16) -> Place
+        ensures { λ r. ⌜ r ≡ writePlace self cart address ⌝ }
+    {
+        let mode = cart.mode;
+        match mode {
+            Mode::House => self.house_write_place(address),
+            Mode::Board => self.read_place(cart, address),
+        }
+    }
+
+    fn bank_select(self, value: u8) -> Mmc3
+        ensures { λ r. ⌜ r ≡ selected self value ⌝ }
+    {
+        let mut next = self;
+        next.select = value % 8;
+        next.prgmode = value / 64 % 2;
+        next.chrmode = value / 128;
+        next
+    }
+
+    fn bank_data(self, value: u8) -> Mmc3
+        ensures { λ r. ⌜ r ≡ stored self value ⌝ }
+    {
+        let mut next = self;
+        let kept = kept_bits(self.select, value);
+        let i = self.select as usize;
+        if i < 8 {
+            next.regs[i] = kept;
+        }
+        next
+    }
+
+    fn with_irq(self, irq: Irq) -> Mmc3
+        ensures { λ r. ⌜ r ≡ withIrq self irq ⌝ }
+    {
+        let mut next = self;
+        next.irq = irq;
+        next
+    }
+
+    fn latch(self, value: u8) -> Mmc3
+        ensures { λ r. ⌜ r ≡ latched self value ⌝ }
+    {
+        let mut irq = self.irq;
+        irq.latch = value;
+        self.with_irq(irq)
+    }
+
+    fn mark_reload(self) -> Mmc3
+        ensures { λ r. ⌜ r ≡ marked self ⌝ }
+    {
+        let mut irq = self.irq;
+        irq.reload = true;
+        self.with_irq(irq)
+    }
+
+    fn switch_irq(self, on: bool) -> Mmc3
+        ensures { λ r. ⌜ r ≡ switched self on ⌝ }
+    {
+        let mut irq = self.irq;
+        irq.enabled = on;
+        self.with_irq(irq)
+    }
+
+    fn write_even(self, value: u8, address: u16) -> Wrote
+        ensures { λ r. ⌜ r ≡ writtenEven self value address ⌝ }
+    {
+        match address {
+            0x8000..=0x9fff => kept(self.bank_select(value)),
+            0xa000..=0xbfff => Wrote {
+                mmc3: self,
+                mirrors: Mirrors::As(screens(value)),
+            },
+            0xc000..=0xdfff => kept(self.latch(value)),
+            0xe000..=0xffff => kept(self.switch_irq(false)),
+            _ => kept(self),
+        }
+    }
+
+    fn write_odd(self, value: u8, address: u16) -> Wrote
+        ensures { λ r. ⌜ r ≡ writtenOdd self value address ⌝ }
+    {
+        match address {
+            0x8000..=0x9fff => kept(self.bank_data(value)),
+            // PRG RAM protection, which the Rust leaves out.
+            0xa000..=0xbfff => kept(self),
+            0xc000..=0xdfff => kept(self.mark_reload()),
+            0xe000..=0xffff => kept(self.switch_irq(true)),
+            _ => kept(self),
+        }
+    }
+
+    pub fn write8(self, value: u8, address: u16) -> Wrote
+        ensures { λ r. ⌜ r ≡ written self value address ⌝ }
+    {
+        if address % 2 == 0 {
+            self.write_even(value, address)
+        } else {
+            self.write_odd(value, address)
+        }
+    }
+
+    pub fn clock(self, mode: Mode) -> Ticked
+        ensures { λ r. ⌜ r ≡ clocked mode self ⌝ }
+    {
+        let irq = self.irq;
+        let c = irq.clock(mode);
+        let next = c.irq;
+        Ticked {
+            mmc3: self.with_irq(next),
+            answer: c.answer,
+        }
+    }
+}

@@ -1,0 +1,33 @@
+-- A byte read from a bank, which is a part of the data, is the byte at the place of that bank: the part starts where the place counts from.
+-- Assumes nothing.
+use Prim.Native.Nat.{ℕ, _<_}
+use mathlib.Core.Path.{_≡_, refl}
+use mathlib.Core.Bool.{Bool, true, false, cond}
+use mathlib.Core.List.{List}
+use Rattle.rules.proofs.Lists.{getD-part}
+use Rattle.memory.specs.Memory.{byte}
+use Rattle.banks.specs.Banks.{bankStart, bankOf}
+use Rattle.banks.specs.declared.Start.{Start}
+use Rattle.banks.specs.declared.Start.the-variants.{At, PastEnd}
+use Rattle.cartridge.specs.Load.{prgTotal, chrTotal, hasChrRam, prgRom, chrRom, chrData}
+use Rattle.cartridge.specs.declared.Cartridge.{Cartridge}
+use Rattle.places.specs.Places.{prgAt, chrAt, prgPlace, chrPlace, byteOf}
+
+module _ (c : Cartridge) (image prg chr : List ℕ) (size n i : ℕ) (h : i < size) where
+  pub prg-byte : byte (bankOf (prgRom image) (bankStart (c .mode) n size (prgTotal c)) size) i ≡ byteOf c (prgPlace c size n i) image prg chr
+  unfolding prgPlace bankOf prgAt byteOf
+  prg-byte = go (bankStart (c .mode) n size (prgTotal c))
+    where
+      go : (s : Start) → byte (bankOf (prgRom image) s size) i ≡ byteOf c (prgAt s i) image prg chr
+      go (At a) = getD-part size a (prgRom image) i h
+      go PastEnd = refl
+
+  pub chr-byte : byte (bankOf (chrData c image chr) (bankStart (c .mode) n size (chrTotal c)) size) i ≡ byteOf c (chrPlace c size n i) image prg chr
+  unfolding chrPlace chrData bankOf chrAt byteOf
+  chr-byte = go (hasChrRam c) (bankStart (c .mode) n size (chrTotal c))
+    where
+      go : (ram : Bool) (s : Start) → byte (bankOf (cond ram chr (chrRom c image)) s size) i ≡ byteOf c (chrAt ram s i) image prg chr
+      go true (At a) = getD-part size a chr i h
+      go false (At a) = getD-part size a (chrRom c image) i h
+      go true PastEnd = refl
+      go false PastEnd = refl

@@ -1,0 +1,12 @@
+-- The definition composes what the callees promise. Assumes nothing.
+use Rattle.rules.proofs.Picks.{picks}
+use Rattle.places.specs.Places.{chrPlace}
+use Rattle.places.proofs.chr_place_1k.Statement.{statement}
+use Rattle.places.proofs.chr_place_1k.Tie as tie
+
+pub chr-place-1k-spec : {M : Type 1} → statement M
+unfolding chrPlace
+chr-place-1k-spec =
+    tie.close
+    (tie.spec
+    (λ c κs. search picks) (λ c κs. search picks) (λ c κs. search picks) (λ c κs. search picks) (λ c. cc))

@@ -1,0 +1,1 @@
+// Lemma sets and general laws that the proofs of every crate cite. No code.

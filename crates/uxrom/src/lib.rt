@@ -1,0 +1,61 @@
+// UxROM: one 16 KB bank register. Ported from potatis nes/src/mappers/uxrom.rs.
+ghost use mathlib.Core.Path.{_≡_};
+ghost use Rattle.uxrom.specs.Uxrom.{readPlace, writePlace, written, start, isStart};
+use banks::Bank8K;
+use banks::Bank16K;
+use cartridge::Cartridge;
+use common::Mode;
+use places::Place;
+
+pub struct Uxrom {
+    pub bank: u8,
+}
+
+impl Uxrom {
+    pub fn new() -> Self
+        ensures { λ r. ⌜ r ≡ start ⌝ }
+    {
+        Uxrom { bank: 0 }
+    }
+
+    pub fn read_place(self, cart: Cartridge, address: u16) -> Place
+        ensures { λ r. ⌜ r ≡ readPlace self cart address ⌝ }
+    {
+        match address {
+            0x0000..=0x1fff => places::chr_place_8k(cart, Bank8K(0), address),
+            0x8000..=0xbfff => {
+                places::prg_place_16k(cart, Bank16K(self.bank as u32), address - 0x8000)
+            }
+            0xc000..=0xffff => {
+                places::prg_place_16k(cart, Bank16K(cart.last_prg()), address - 0xc000)
+            }
+            _ => Place::Zero,
+        }
+    }
+
+    pub fn write_place(self, cart: Cartridge, address: u16) -> Place
+        ensures { λ r. ⌜ r ≡ writePlace self cart address ⌝ }
+    {
+        let mode = cart.mode;
+        match mode {
+            Mode::House => nrom::house_write_place(cart, address),
+            Mode::Board => self.read_place(cart, address),
+        }
+    }
+
+    // The bank is the whole byte.
+    pub fn write8(self, value: u8, address: u16) -> Self
+        ensures { λ r. ⌜ r ≡ written self value address ⌝ }
+    {
+        match address {
+            0x8000..=0xffff => Uxrom { bank: value },
+            _ => self,
+        }
+    }
+
+    pub fn is_start(self) -> bool
+        ensures { λ r. ⌜ r ≡ isStart self ⌝ }
+    {
+        self.bank == 0
+    }
+}
