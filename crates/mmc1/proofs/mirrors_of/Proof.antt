@@ -9,5 +9,8 @@ unfolding mirrorsOf
 mirrors-of-spec =
     tie.close
     (tie.spec
-    (λ c. search picks) (λ c κs. search picks) (λ c. search picks) (λ c. search picks) (λ c. search picks) (λ c. cc)
-    (λ c. cc) (λ c. cc) (λ c. cc))
+    (λ c. search picks) (λ c κs. search picks) (λ c. search picks) (λ c. search picks) (λ c. search picks)
+    (λ c. simp (c .control-mirroring .ensures, c .before .enum-told .given .1))
+    (λ c. simp (c .enum-told2 .given .1))
+    (λ c. simp (c .enum-told3 .given .1))
+    (λ c. simp (c .enum-told4 .given .1)))

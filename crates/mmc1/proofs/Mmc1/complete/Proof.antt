@@ -6,4 +6,8 @@ use Rattle.mmc1.proofs.Mmc1.complete.Tie as tie
 
 pub complete-spec : {M : Type 1} → statement M
 unfolding completed
-complete-spec = tie.close (tie.spec (λ c κs. search picks) (λ c κs. search picks) (λ c. cc))
+complete-spec =
+    tie.close
+    (tie.spec
+    (λ c κs. search picks) (λ c κs. search picks)
+    (λ c. simp (c .mirrors-of .ensures, c .before .load .ensures)))

@@ -6,4 +6,4 @@ use Rattle.mmc1.proofs.Mmc1.enter.Tie as tie
 
 pub enter-spec : {M : Type 1} → statement M
 unfolding entered
-enter-spec = tie.close (tie.spec (λ c κs. search picks) (λ c. cc))
+enter-spec = tie.close (tie.spec (λ c κs. search picks) (λ c. simp (c .kept .ensures)))

@@ -6,4 +6,8 @@ use Rattle.mmc1.proofs.Mmc1.fits.Tie as tie
 
 pub fits-spec : {M : Type 1} → statement M
 unfolding fits
-fits-spec = tie.close (tie.spec (λ c κs. search picks) (λ c κs. search picks) (λ c. cc))
+fits-spec =
+    tie.close
+    (tie.spec
+    (λ c κs. search picks) (λ c κs. search picks)
+    (λ c. simp (c .fits3 .ensures, c .before .fits2 .ensures)))

@@ -10,4 +10,4 @@ lower-chr-bank-spec =
     tie.close
     (tie.spec
     (λ c κs. search picks) (λ c κs. search picks) (λ c κs. search picks) (λ c κs. search picks) (λ c κs. search picks)
-    (λ c. cc))
+    (λ c. simp (c .bank-of .ensures, c .before .chr-data .ensures, c .before .before .start .ensures, c .before .before .before .chr-total .ensures, c .before .before .before .before .lower-chr .ensures)))

@@ -6,4 +6,8 @@ use Rattle.mmc1.proofs.Mmc1.lower_chr_place.Tie as tie
 
 pub lower-chr-place-spec : {M : Type 1} → statement M
 unfolding lowerChrPlace
-lower-chr-place-spec = tie.close (tie.spec (λ c κs. search picks) (λ c κs. search picks) (λ c. cc))
+lower-chr-place-spec =
+    tie.close
+    (tie.spec
+    (λ c κs. search picks) (λ c κs. search picks)
+    (λ c. simp (c .chr-place-4k .ensures, c .before .lower-chr .ensures)))

@@ -10,4 +10,4 @@ lower-prg-bank-spec =
     tie.close
     (tie.spec
     (λ c κs. search picks) (λ c κs. search picks) (λ c κs. search picks) (λ c κs. search picks) (λ c κs. search picks)
-    (λ c. cc))
+    (λ c. simp (c .bank-of .ensures, c .before .prg-rom .ensures, c .before .before .start .ensures, c .before .before .before .prg-total .ensures, c .before .before .before .before .lower-prg .ensures)))

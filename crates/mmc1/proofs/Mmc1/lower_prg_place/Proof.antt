@@ -6,4 +6,8 @@ use Rattle.mmc1.proofs.Mmc1.lower_prg_place.Tie as tie
 
 pub lower-prg-place-spec : {M : Type 1} → statement M
 unfolding lowerPrgPlace
-lower-prg-place-spec = tie.close (tie.spec (λ c κs. search picks) (λ c κs. search picks) (λ c. cc))
+lower-prg-place-spec =
+    tie.close
+    (tie.spec
+    (λ c κs. search picks) (λ c κs. search picks)
+    (λ c. simp (c .prg-place-16k .ensures, c .before .lower-prg .ensures)))

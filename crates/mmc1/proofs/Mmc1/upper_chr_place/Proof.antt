@@ -6,4 +6,8 @@ use Rattle.mmc1.proofs.Mmc1.upper_chr_place.Tie as tie
 
 pub upper-chr-place-spec : {M : Type 1} → statement M
 unfolding upperChrPlace
-upper-chr-place-spec = tie.close (tie.spec (λ c κs. search picks) (λ c κs. search picks) (λ c. cc))
+upper-chr-place-spec =
+    tie.close
+    (tie.spec
+    (λ c κs. search picks) (λ c κs. search picks)
+    (λ c. simp (c .chr-place-4k .ensures, c .before .upper-chr .ensures)))

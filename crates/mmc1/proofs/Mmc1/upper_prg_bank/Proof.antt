@@ -10,4 +10,5 @@ upper-prg-bank-spec =
     tie.close
     (tie.spec
     (λ c κs. search picks) (λ c κs. search picks) (λ c κs. search picks) (λ c κs. search picks) (λ c κs. search picks)
-    (λ c κs. search picks) (λ c. cc))
+    (λ c κs. search picks)
+    (λ c. simp (c .bank-of .ensures, c .before .start .ensures, c .before .before .prg-total .ensures, c .before .before .before .prg-rom .ensures, c .before .before .before .before .upper-prg .ensures, c .before .before .before .before .before .last-prg .ensures)))

@@ -6,4 +6,8 @@ use Rattle.mmc1.proofs.Mmc1.upper_prg_place.Tie as tie
 
 pub upper-prg-place-spec : {M : Type 1} → statement M
 unfolding upperPrgPlace
-upper-prg-place-spec = tie.close (tie.spec (λ c κs. search picks) (λ c κs. search picks) (λ c κs. search picks) (λ c. cc))
+upper-prg-place-spec =
+    tie.close
+    (tie.spec
+    (λ c κs. search picks) (λ c κs. search picks) (λ c κs. search picks)
+    (λ c. simp (c .prg-place-16k .ensures, c .before .upper-prg .ensures, c .before .before .last-prg .ensures)))

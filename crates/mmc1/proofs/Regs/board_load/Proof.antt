@@ -10,4 +10,8 @@ board-load-spec =
     tie.close
     (tie.spec
     (λ c. search picks) (λ c κs. search picks) (λ c. search picks) (λ c κs. search picks) (λ c. search picks)
-    (λ c κs. search picks) (λ c. search picks) (λ c κs. search picks) (λ c. cc) (λ c. cc) (λ c. cc) (λ c. cc))
+    (λ c κs. search picks) (λ c. search picks) (λ c κs. search picks)
+    (λ c. simp (c .update-control-register .ensures, c .before .enum-told .given .1))
+    (λ c. simp (c .with-chr0 .ensures, c .before .enum-told2 .given .1))
+    (λ c. simp (c .with-chr1 .ensures, c .before .enum-told3 .given .1))
+    (λ c. simp (c .with-prg .ensures, c .before .enum-told4 .given .1)))

@@ -13,4 +13,4 @@ fits-spec =
     (tie.spec
     (λ c κs. search picks)
     (λ c. rw (c .before .unit .ensures) (pow-pos (5 - c .before .before .before .before .args .self .count)))
-    (λ c. cc))
+    (λ c. simp (c .before .unit .ensures)))
