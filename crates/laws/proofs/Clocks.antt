@@ -1,0 +1,137 @@
+-- When a run of clocks answers yes. Both modes move the unit alike, through the latch n, n - 1, .., 0 and round again, so one induction serves both.
+-- Assumes nothing.
+use Prim.Native.Nat.{ℕ, zero, suc, _-_, _%_, _+_, _≤_, _<_, _∣_}
+use mathlib.Core.Path.{_≡_, refl, _∙_, sym, ap}
+use mathlib.Core.Logic.{_↔_}
+use mathlib.Core.Bool.{Bool, true, false, false≢true, _&&_}
+use native.Mathlib.Nat.{mod-lt, mod-self, mod-eq-of-lt, suc-mod, dvd-iff-mod-eq-zero}
+use native.Mathlib.Numerals.{add-one}
+use native.Mathlib.Omega.{arith}
+use lib.Dec.{eqb}
+use borrow.Author.Tests.{eqb-true, eqb-false}
+use Rattle.common.specs.declared.Mode.{Mode}
+use Rattle.common.specs.declared.Mode.the-variants.{House, Board}
+use Rattle.mmc3.specs.Clock.{houseClock, nextCounter, boardClock, clockIn, withIrq, clocked}
+use Rattle.mmc3.specs.Write.{kept, latched, marked, switched, writtenEven, writtenOdd, written}
+use Rattle.mmc3.specs.declared.Irq.{Irq}
+use Rattle.mmc3.specs.declared.Mmc3.{Mmc3}
+use Rattle.laws.specs.Clocks.{armed, after, answered}
+
+-- the counter j clocks after it became the latch n: n, n - 1, .., 0, n, ..
+abbrev shown : ℕ → ℕ → ℕ
+shown n j = n - j % suc n
+
+-- the unit that the runs pass through, and the one that they start with
+abbrev unit : ℕ → ℕ → Irq
+unit n c = record { enabled = true; latch = n; counter = c; reload = false }
+
+abbrev ready : ℕ → ℕ → Irq
+ready n c = record { enabled = true; latch = n; counter = c; reload = true }
+
+-- the three writes leave such a unit
+is-ready : (m : Mmc3) (n x y : ℕ) → armed m n x y .irq ≡ ready n (m .irq .counter)
+unfolding written writtenEven writtenOdd kept latched marked switched withIrq
+is-ready m n x y = refl
+
+-- a clock of the board is one of its unit, in either mode the same move
+moves : (mode : Mode) (m : Mmc3) → clocked mode m .mmc3 .irq ≡ boardClock (m .irq) .irq
+unfolding clocked withIrq clockIn houseClock boardClock nextCounter
+moves Board m = refl
+moves House m = go (m .irq .reload) (eqb (m .irq .counter) 0) refl refl
+  where
+    go : (b z : Bool) → m .irq .reload ≡ b → eqb (m .irq .counter) 0 ≡ z → houseClock (m .irq) .irq ≡ boardClock (m .irq) .irq
+    go true z e d = simp e
+    go false true e d = simp (e, d)
+    go false false e d = simp (e, d)
+
+wraps : (n j : ℕ) → shown n j ≡ 0 → suc j % suc n ≡ 0
+wraps n j h =
+    let b : j % suc n < suc n = mod-lt j (omega arith) in
+    let e : j % suc n ≡ n = omega arith in
+    suc-mod j (suc n) ∙ ap (λ (r : ℕ). suc r % suc n) e ∙ mod-self (suc n)
+
+counts : (n j : ℕ) → (shown n j ≡ 0 → ⊥) → suc j % suc n ≡ suc (j % suc n)
+counts n j h = let b : suc (j % suc n) < suc n = omega arith in suc-mod j (suc n) ∙ mod-eq-of-lt b
+
+-- one clock takes the unit from one place of the row to the next
+step : (n j : ℕ) → boardClock (unit n (shown n j)) .irq ≡ unit n (shown n (suc j))
+unfolding boardClock nextCounter
+step n j = go (eqb (shown n j) 0) refl
+  where
+    go : (b : Bool) → eqb (shown n j) 0 ≡ b → boardClock (unit n (shown n j)) .irq ≡ unit n (shown n (suc j))
+    go true e = rw e (ap (unit n) (omega (arith, wraps n j (eqb-true _ _ e))))
+    go false e = rw e (ap (unit n) (omega (arith, counts n j (eqb-false _ _ e))))
+
+first : (n c : ℕ) → boardClock (ready n c) .irq ≡ unit n (shown n 0)
+unfolding boardClock nextCounter
+first n c = ap (unit n) (omega (arith, mod-eq-of-lt {n = 0} {m = suc n} (omega arith)))
+
+passes : (mode : Mode) (m : Mmc3) (n c j : ℕ) → m .irq ≡ ready n c → after mode (suc j) m .irq ≡ unit n (shown n j)
+passes mode m n c zero e = moves mode m ∙ ap (λ (i : Irq). boardClock i .irq) e ∙ first n c
+passes mode m n c (suc j) e =
+    moves mode (after mode (suc j) m) ∙ ap (λ (i : Irq). boardClock i .irq) (passes mode m n c j e) ∙ step n j
+
+-- where the row shows 0
+zero-at : (n j : ℕ) → (eqb (shown n j) 0 ≡ true) ↔ (suc n ∣ suc j)
+zero-at n j = (λ e. dvd-iff-mod-eq-zero (suc n) .1 (wraps n j (eqb-true _ _ e)), λ d. go (eqb (shown n j) 0) refl d)
+  where
+    go : (b : Bool) → eqb (shown n j) 0 ≡ b → suc n ∣ suc j → eqb (shown n j) 0 ≡ true
+    go true e d = e
+    go false e d = absurd (omega (arith, counts n j (eqb-false _ _ e), dvd-iff-mod-eq-zero (suc n) .0 d))
+
+-- a board clock answers yes where the unit after it shows 0
+after-it : (i : Irq) → boardClock i .answer ≡ (boardClock i .irq .enabled && eqb (boardClock i .irq .counter) 0)
+unfolding boardClock
+after-it i = refl
+
+-- a house clock without the mark answers yes where the unit before it shows 0
+before-it : (n c : ℕ) → houseClock (unit n c) .answer ≡ eqb c 0
+unfolding houseClock
+before-it n c = go (eqb c 0) refl
+  where
+    go : (b : Bool) → eqb c 0 ≡ b → houseClock (unit n c) .answer ≡ eqb c 0
+    go true e = rw e
+    go false e = rw e
+
+marked-no : (n c : ℕ) → houseClock (ready n c) .answer ≡ false
+unfolding houseClock
+marked-no n c = refl
+
+clock-answer : (mode : Mode) (m : Mmc3) → clocked mode m .answer ≡ clockIn mode (m .irq) .answer
+unfolding clocked
+clock-answer mode m = refl
+
+module _ (m : Mmc3) (n x y : ℕ) where
+  board-answer : (k : ℕ) → answered Board (suc k) (armed m n x y) ≡ eqb (shown n k) 0
+  unfolding clockIn
+  board-answer k =
+      clock-answer Board (after Board k (armed m n x y))
+      ∙ after-it (after Board k (armed m n x y) .irq)
+      ∙ ap (λ (i : Irq). i .enabled && eqb (i .counter) 0) (sym (moves Board (after Board k (armed m n x y))) ∙ passes Board (armed m n x y) n (m .irq .counter) k (is-ready m n x y))
+
+  house-answer : (k : ℕ) → answered House (suc (suc k)) (armed m n x y) ≡ eqb (shown n k) 0
+  unfolding clockIn
+  house-answer k =
+      clock-answer House (after House (suc k) (armed m n x y))
+      ∙ ap (λ (i : Irq). houseClock i .answer) (passes House (armed m n x y) n (m .irq .counter) k (is-ready m n x y))
+      ∙ before-it n (shown n k)
+
+  house-first : answered House 1 (armed m n x y) ≡ false
+  unfolding clockIn
+  house-first = clock-answer House (armed m n x y) ∙ ap (λ (i : Irq). houseClock i .answer) (is-ready m n x y) ∙ marked-no n (m .irq .counter)
+
+  -- board: "After the same three writes clock k answers yes exactly when n + 1 divides k"
+  pub board-clocks : (k : ℕ) → 1 ≤ k → (answered Board k (armed m n x y) ≡ true) ↔ (n + 1 ∣ k)
+  board-clocks zero h = absurd (omega arith)
+  board-clocks (suc k) h =
+      let e = board-answer k in
+      rw (add-one n) (λ a. zero-at n k .0 (sym e ∙ a), λ d. e ∙ zero-at n k .1 d)
+
+  -- house: "clock k (from one) answers yes exactly when k is 2 or more and n + 1 divides k - 1"
+  pub house-clocks : (k : ℕ) → (answered House k (armed m n x y) ≡ true) ↔ ((2 ≤ k) × (n + 1 ∣ k - 1))
+  house-clocks zero = (λ e. absurd (false≢true e), λ p. absurd (omega arith))
+  house-clocks (suc zero) = (λ e. absurd (false≢true (sym house-first ∙ e)), λ p. absurd (omega arith))
+  house-clocks (suc (suc k)) =
+      let e = house-answer k in
+      let s : suc (suc k) - 1 ≡ suc k = omega arith in
+      rw (add-one n, s) (λ a. (omega arith, zero-at n k .0 (sym e ∙ a)), λ d. e ∙ zero-at n k .1 (d .1))

@@ -1,0 +1,2 @@
+pub mod PLines
+pub mod Clocks

@@ -1,0 +1,181 @@
+-- The P lines of document 01, as rows of one table: what is asked, and what is wanted.
+use Prim.Native.Nat.{ℕ, _+_, _-_}
+use mathlib.Core.Bool.{true, false}
+use mathlib.Core.List.{List, [], _∷_, _++_, map}
+use lib.ListN.{length, replicate}
+use Rattle.common.specs.declared.Mode.{Mode}
+use Rattle.common.specs.declared.Mode.the-variants.{House, Board as OnBoard}
+use Rattle.cartridge.specs.Answers.{refusalNumber, mirroringLetter}
+use Rattle.cartridge.specs.Header.{headerOf}
+use Rattle.cartridge.specs.Load.{verdict, cartridgeOf, loadedAs}
+use Rattle.places.specs.declared.ReadAnswer.{ReadAnswer}
+use Rattle.places.specs.declared.ReadAnswer.the-variants.{Byte, Refused as NoByte}
+use Rattle.mmc1.specs.declared.Register.{Register}
+use Rattle.mmc1.specs.declared.Register.the-variants.{Control, Chr0, Chr1, Prg}
+use Rattle.boards.specs.Start.{loadedBoard}
+use Rattle.boards.specs.Runs.{Call, Answer, after, answers}
+use Rattle.boards.specs.Runs.Call.{read, write, clock}
+use Rattle.boards.specs.Runs.Answer.{toRead, toWrite, toClock}
+use Rattle.boards.specs.declared.Loaded.{Loaded}
+use Rattle.boards.specs.declared.LoadAnswer.{LoadAnswer}
+use Rattle.boards.specs.declared.LoadAnswer.the-variants.{Accepted, Refused as NotLoaded}
+use Rattle.boards.specs.declared.WriteAnswer.{WriteAnswer}
+use Rattle.boards.specs.declared.WriteAnswer.the-variants.{Quiet, Notice, Refused as NotWritten}
+use Rattle.boards.specs.declared.ClockAnswer.{ClockAnswer}
+use Rattle.boards.specs.declared.ClockAnswer.the-variants.{No, Yes, Refused as NotClocked}
+use Rattle.laws.specs.Loads.{Done, loads}
+use Rattle.laws.specs.Loads.Done.{nothing, load}
+
+-- a header: PRG count, CHR count, bytes 6 and 7
+abbrev pub header : ℕ → ℕ → ℕ → ℕ → List ℕ
+header p c b6 b7 = 0x4E ∷ 0x45 ∷ 0x53 ∷ 0x1A ∷ p ∷ c ∷ b6 ∷ b7 ∷ 0 ∷ 0 ∷ 0 ∷ 0 ∷ 0 ∷ 0 ∷ 0 ∷ 0 ∷ []
+
+-- an image of a length, zero after its header
+abbrev pub image : ℕ → ℕ → ℕ → ℕ → List ℕ
+image size p c b6 = header p c b6 0 ++ replicate (size - 16) 0
+
+abbrev pub ram : List ℕ
+ram = replicate 8192 0
+
+abbrev pub loadOf : Mode → List ℕ → Loaded
+loadOf mode s = loadedBoard (loadedAs (verdict s mode (length ram) (length ram)) (cartridgeOf (headerOf s) mode (length s)))
+
+-- an event, with the image and both RAMs lent to it
+pub data Event : Type 0 where
+  reads : ℕ → Event
+  writes : ℕ → ℕ → Event
+  clocks : Event
+
+abbrev pub call : List ℕ → Event → Call
+call s (reads a) = read (record { image = s; prg = ram; chr = ram }) a
+call s (writes a v) = write (record { image = s; prg = ram; chr = ram }) a v
+call s clocks = clock
+
+-- what a row asks: a load, or of a loaded board its answers, the loads that it completes, or a register
+pub data Question : Type 0 where
+  whenLoaded : Mode → List ℕ → Question
+  whenPlayed : Mode → List ℕ → List Event → Question
+  loadsOf : Mode → List ℕ → List Event → Question
+  prgAfter : Mode → List ℕ → List Event → Question
+
+-- answers as numbers: a byte, a letter, yes and no as 1 and 0, and a refusal as 1,000 and its number
+abbrev pub refused : ℕ → ℕ
+refused n = 1000 + n
+
+abbrev pub loadNumber : LoadAnswer → ℕ
+loadNumber Accepted = 0
+loadNumber (NotLoaded why) = refused (refusalNumber why)
+
+abbrev pub readNumber : ReadAnswer → ℕ
+readNumber (Byte v) = v
+readNumber (NoByte why) = refused (refusalNumber why)
+
+abbrev pub writeNumber : WriteAnswer → ℕ
+writeNumber Quiet = 0
+writeNumber (Notice m) = mirroringLetter m
+writeNumber (NotWritten why) = refused (refusalNumber why)
+
+abbrev pub clockNumber : ClockAnswer → ℕ
+clockNumber No = 0
+clockNumber Yes = 1
+clockNumber (NotClocked why) = refused (refusalNumber why)
+
+abbrev pub answerNumber : Answer → ℕ
+answerNumber (toRead r) = readNumber r
+answerNumber (toWrite r) = writeNumber r
+answerNumber (toClock r) = clockNumber r
+
+abbrev pub registerNumber : Register → ℕ
+registerNumber Control = 0
+registerNumber Chr0 = 1
+registerNumber Chr1 = 2
+registerNumber Prg = 3
+
+-- the loads alone: for each its register, then its five bits
+abbrev pub listed : List Done → List ℕ
+listed [] = []
+listed (nothing ∷ ds) = listed ds
+listed (load w v ∷ ds) = registerNumber w ∷ v ∷ listed ds
+
+abbrev pub answerTo : Question → List ℕ
+answerTo (whenLoaded mode s) = loadNumber (loadOf mode s .answer) ∷ []
+answerTo (whenPlayed mode s es) = map answerNumber (answers (loadOf mode s .board) (map (call s) es))
+answerTo (loadsOf mode s es) = listed (loads (loadOf mode s .board) (map (call s) es))
+answerTo (prgAfter mode s es) = after (loadOf mode s .board) (map (call s) es) .mmc1 .regs .prg ∷ []
+
+pub record Row : Type 0 where
+  pub asked : Question
+  pub wanted : List ℕ
+
+abbrev pub row : Question → List ℕ → Row
+row q w = record { asked = q; wanted = w }
+
+-- the images of the rows
+abbrev pub nrom : List ℕ
+nrom = image 16400 1 0 0x00
+
+abbrev pub uxrom : List ℕ
+uxrom = header 2 0 0x20 0 ++ 7 ∷ replicate 32767 0
+
+abbrev pub cnrom : List ℕ
+cnrom = header 1 0 0x30 0 ++ replicate 16383 0 ++ 9 ∷ []
+
+abbrev pub mmc1 : List ℕ
+mmc1 = image 16400 1 0 0x11
+
+abbrev pub mmc3 : List ℕ
+mmc3 = image 16400 1 0 0x40
+
+-- the writes that P7 and P8 name
+abbrev pub fiveBits : List Event
+fiveBits = writes 0x8000 1 ∷ writes 0x8000 1 ∷ writes 0x8000 0 ∷ writes 0x8000 0 ∷ writes 0x8000 1 ∷ []
+
+abbrev pub fourAndFive : List Event
+fourAndFive =
+    writes 0xE000 1 ∷ writes 0xE000 1 ∷ writes 0xE000 1 ∷ writes 0xE000 1 ∷ writes 0xE000 0x80
+    ∷ writes 0xE000 0 ∷ writes 0xE000 0 ∷ writes 0xE000 0 ∷ writes 0xE000 0 ∷ writes 0xE000 0 ∷ []
+
+-- latch n, reload and enable written, then clocks
+abbrev pub armed : ℕ → List Event → List Event
+armed n es = writes 0xC000 n ∷ writes 0xC001 0 ∷ writes 0xE001 0 ∷ es
+
+abbrev pub three : List Event
+three = clocks ∷ clocks ∷ clocks ∷ []
+
+abbrev pub seven : List Event
+seven = clocks ∷ clocks ∷ clocks ∷ clocks ∷ clocks ∷ clocks ∷ clocks ∷ []
+
+abbrev pub rows : List Row
+rows =
+    -- P1: 16,399 bytes, good magic: 3
+    row (whenLoaded House (image 16399 1 0 0x00)) (refused 3 ∷ [])
+    -- P2: 16,400 bytes, PRG 1, CHR 0, NROM: accepted
+    ∷ row (whenLoaded House nrom) (0 ∷ [])
+    -- P3: P2 with byte 6 = 54: 4, not 5
+    ∷ row (whenLoaded House (image 16400 1 0 0x54)) (refused 4 ∷ [])
+    -- P4: with 08: 5
+    ∷ row (whenLoaded House (image 16400 1 0 0x08)) (refused 5 ∷ [])
+    -- P5: P2 with PRG 3: 6, not 7
+    ∷ row (whenLoaded House (image 16400 3 0 0x00)) (refused 6 ∷ [])
+    -- P6: UxROM, PRG 2, CHR 0, 32,783 bytes: 7; 32,784: accepted
+    ∷ row (whenLoaded House (image 32783 2 0 0x20)) (refused 7 ∷ [])
+    ∷ row (whenLoaded House (image 32784 2 0 0x20)) (0 ∷ [])
+    -- P7: MMC1 serial bits 1, 1, 0, 0, 1 at 8000, header vertical: control 19, notice horizontal
+    ∷ row (loadsOf House mmc1 fiveBits) (0 ∷ 19 ∷ [])
+    ∷ row (whenPlayed House mmc1 fiveBits) (0 ∷ 0 ∷ 0 ∷ 0 ∷ 0x48 ∷ [])
+    -- P8: MMC1, four bits, byte 80, five zeros, all at E000: one load, PRG 0
+    ∷ row (loadsOf House mmc1 fourAndFive) (3 ∷ 0 ∷ [])
+    ∷ row (prgAfter House mmc1 fourAndFive) (0 ∷ [])
+    -- P9: MMC3 latch 0, clocks 1-3: no yes yes; board: yes yes yes
+    ∷ row (whenPlayed House mmc3 (armed 0 three)) (0 ∷ 0 ∷ 0 ∷ 0 ∷ 1 ∷ 1 ∷ [])
+    ∷ row (whenPlayed OnBoard mmc3 (armed 0 three)) (0 ∷ 0 ∷ 0 ∷ 1 ∷ 1 ∷ 1 ∷ [])
+    -- P10: latch 2, clocks 1-7: yes at 4 and 7; board: 3 and 6
+    ∷ row (whenPlayed House mmc3 (armed 2 seven)) (0 ∷ 0 ∷ 0 ∷ 0 ∷ 0 ∷ 0 ∷ 1 ∷ 0 ∷ 0 ∷ 1 ∷ [])
+    ∷ row (whenPlayed OnBoard mmc3 (armed 2 seven)) (0 ∷ 0 ∷ 0 ∷ 0 ∷ 0 ∷ 1 ∷ 0 ∷ 0 ∷ 1 ∷ 0 ∷ [])
+    -- P11: UxROM, PRG 2, bank 2, read 8000: 11; board: PRG byte 0
+    ∷ row (whenPlayed House uxrom (writes 0x8000 2 ∷ reads 0x8000 ∷ [])) (0 ∷ refused 11 ∷ [])
+    ∷ row (whenPlayed OnBoard uxrom (writes 0x8000 2 ∷ reads 0x8000 ∷ [])) (0 ∷ 7 ∷ [])
+    -- P12: CNROM, PRG 1, read BFFF: 13; board: PRG byte 16,383
+    ∷ row (whenPlayed House cnrom (reads 0xBFFF ∷ [])) (refused 13 ∷ [])
+    ∷ row (whenPlayed OnBoard cnrom (reads 0xBFFF ∷ [])) (9 ∷ [])
+    ∷ []
