@@ -1,2 +1,7 @@
 pub mod PLines
 pub mod Clocks
+pub mod Unique
+mod Cases
+mod Mmc1Ranges
+mod Mmc3Ranges
+pub mod Ranges

@@ -17,7 +17,7 @@ kept m = record { mmc3 = m; mirrors = AsBefore }
 
 -- "8000-9FFF even: bits 0-2 select, bit 6 PRG mode, bit 7 CHR mode"
 unfoldable pub selected : Mmc3 → ℕ → Mmc3
-selected m v = record { select = v % 8; prgmode = v / 64 % 2; chrmode = v / 128; regs = m .regs; irq = m .irq }
+selected m v = record { select = v % 8; prgmode = v / 64 % 2; chrmode = v / 128 % 2; regs = m .regs; irq = m .irq }
 
 -- "R0 and R1 lose bit 0, R6 and R7 keep six bits"
 unfoldable pub keptBits : ℕ → ℕ → ℕ

@@ -335,7 +335,7 @@ impl Mmc3 {
         let mut next = self;
         next.select = value % 8;
         next.prgmode = value / 64 % 2;
-        next.chrmode = value / 128;
+        next.chrmode = value / 128 % 2;
         next
     }
 

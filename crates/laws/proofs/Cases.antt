@@ -1,0 +1,6 @@
+-- What holds of both arms of a choice holds of the choice. Assumes nothing.
+use mathlib.Core.Bool.{Bool, true, false, cond}
+
+pub either : {A : Type 0} (P : A → Type 0) (t : Bool) {x y : A} → P x → P y → P (cond t x y)
+either P true p q = p
+either P false p q = q

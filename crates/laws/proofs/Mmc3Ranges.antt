@@ -1,0 +1,148 @@
+-- MMC3's fields stay in range: a data write changes one register and keeps the bits that its range allows. Assumes nothing.
+use Prim.Native.Nat.{ℕ, zero, suc, _*_, _/_, _%_, _≤_, _<_}
+use mathlib.Core.Path.{_≡_, refl, ap, _∙_}
+use mathlib.Core.Logic.{_⊎_, inl, inr, ⊎-elim}
+use mathlib.Core.Bool.{Bool, true, false, _&&_}
+use mathlib.Core.List.{List, [], _∷_}
+use native.Mathlib.Omega.{arith}
+use lib.Dec.{ltb, eqb}
+use lib.ListN.{getD, set}
+use borrow.Author.Tests.{ltb-true, eqb-true, lt-ltb, le-ltb, le-leb, eq-eqb}
+use Rattle.rules.proofs.Bools.{and-left, and-right, split-3, split-5}
+use Rattle.common.specs.declared.Mode.{Mode}
+use Rattle.cartridge.specs.Load.{isHeaders}
+use Rattle.cartridge.specs.declared.Mirrors.{Mirrors}
+use Rattle.cartridge.specs.declared.Mirrors.the-variants.{AsBefore, As}
+use Rattle.mmc3.specs.Clock.{withIrq, clocked, clockIn}
+use Rattle.mmc3.specs.Read.{register}
+use Rattle.mmc3.specs.Write.{kept, selected, keptBits, stored, screens, latched, marked, switched, writtenEven, writtenOdd, written}
+use Rattle.mmc3.specs.Range.{fits}
+use Rattle.mmc3.specs.declared.Irq.{Irq}
+use Rattle.mmc3.specs.declared.Mmc3.{Mmc3}
+use Rattle.mmc3.specs.declared.Wrote.{Wrote}
+use Rattle.laws.proofs.Cases.{either}
+
+-- after a store an element is as it was, or it is the one stored
+get-set : (l : List ℕ) (i x k : ℕ) → (getD (set l i x) k 0 ≡ getD l k 0) ⊎ ((k ≡ i) × (getD (set l i x) k 0 ≡ x))
+get-set [] i x k = inl refl
+get-set (y ∷ l) zero x zero = inr (refl, refl)
+get-set (y ∷ l) zero x (suc k) = inl refl
+get-set (y ∷ l) (suc i) x zero = inl refl
+get-set (y ∷ l) (suc i) x (suc k) =
+    ⊎-elim {C = (getD (set l i x) k 0 ≡ getD l k 0) ⊎ ((suc k ≡ suc i) × (getD (set l i x) k 0 ≡ x))} (λ e. inl e) (λ e. inr (ap suc (e .0), e .1)) (get-set l i x k)
+
+record Ranged (m : Mmc3) : Type 0 where
+  select : m .select < 8
+  prgmode : m .prgmode < 2
+  chrmode : m .chrmode < 2
+  r0 : getD (m .regs) 0 0 % 2 ≡ 0
+  r1 : getD (m .regs) 1 0 % 2 ≡ 0
+  r6 : getD (m .regs) 6 0 < 64
+  r7 : getD (m .regs) 7 0 < 64
+
+ranged : (m : Mmc3) → fits m ≡ true → Ranged m
+unfolding fits register
+ranged m e =
+    let p = split-5 (ltb (m .select) 8 && ltb (m .prgmode) 2 && ltb (m .chrmode) 2) (eqb (register m 0 % 2) 0) (eqb (register m 1 % 2) 0) (ltb (register m 6) 64) (ltb (register m 7) 64) e in
+    let q = split-3 (ltb (m .select) 8) (ltb (m .prgmode) 2) (ltb (m .chrmode) 2) (p .0) in
+    record
+    { select = ltb-true (m .select) 8 (q .0)
+    ; prgmode = ltb-true (m .prgmode) 2 (q .1)
+    ; chrmode = ltb-true (m .chrmode) 2 (q .2)
+    ; r0 = eqb-true (register m 0 % 2) 0 (p .1)
+    ; r1 = eqb-true (register m 1 % 2) 0 (p .2)
+    ; r6 = ltb-true (register m 6) 64 (p .3)
+    ; r7 = ltb-true (register m 7) 64 (p .4)
+    }
+
+in-fits : (m : Mmc3) → Ranged m → fits m ≡ true
+unfolding fits register
+in-fits m p =
+    rw
+    (lt-ltb _ _ (p .select), lt-ltb _ _ (p .prgmode), lt-ltb _ _ (p .chrmode), eq-eqb _ _ (p .r0), eq-eqb _ _ (p .r1), lt-ltb _ _ (p .r6), lt-ltb _ _ (p .r7))
+    refl
+
+kept-even : (s v : ℕ) → s < 2 → keptBits s v % 2 ≡ 0
+unfolding keptBits
+kept-even s v h = rw (lt-ltb s 2 h) (omega arith)
+
+kept-six : (s v : ℕ) → 6 ≤ s → keptBits s v < 64
+unfolding keptBits
+kept-six s v h = let g : 2 ≤ s = omega arith in rw (le-ltb s 2 g, le-leb 6 s h) (omega arith)
+
+stored-ranged : (m : Mmc3) (v : ℕ) → Ranged m → Ranged (stored m v)
+unfolding stored
+stored-ranged m v p =
+    record
+    { select = p .select
+    ; prgmode = p .prgmode
+    ; chrmode = p .chrmode
+    ; r0 = even 0 (omega arith) (p .r0)
+    ; r1 = even 1 (omega arith) (p .r1)
+    ; r6 = six 6 (omega arith) (p .r6)
+    ; r7 = six 7 (omega arith) (p .r7)
+    }
+  where
+    x : ℕ
+    x = keptBits (m .select) v
+    even : (k : ℕ) → k < 2 → getD (m .regs) k 0 % 2 ≡ 0 → getD (set (m .regs) (m .select) x) k 0 % 2 ≡ 0
+    even k h e =
+        ⊎-elim {C = getD (set (m .regs) (m .select) x) k 0 % 2 ≡ 0} (λ same. ap (λ (n : ℕ). n % 2) same ∙ e)
+        (λ new. ap (λ (n : ℕ). n % 2) (new .1) ∙ kept-even (m .select) v (omega (arith, new .0)))
+        (get-set (m .regs) (m .select) x k)
+    six : (k : ℕ) → 6 ≤ k → getD (m .regs) k 0 < 64 → getD (set (m .regs) (m .select) x) k 0 < 64
+    six k h e =
+        ⊎-elim {C = getD (set (m .regs) (m .select) x) k 0 < 64} (λ same. omega (arith, same))
+        (λ new. omega (arith, new .1, kept-six (m .select) v (omega (arith, new .0))))
+        (get-set (m .regs) (m .select) x k)
+
+-- no range speaks of the interrupt unit
+with-irq : (m : Mmc3) (i : Irq) → fits (withIrq m i) ≡ fits m
+unfolding fits withIrq register
+with-irq m i = refl
+
+pub clocked-fits : (mode : Mode) (m : Mmc3) → fits m ≡ true → fits (clocked mode m .mmc3) ≡ true
+unfolding clocked
+clocked-fits mode m e = with-irq m (clockIn mode (m .irq) .irq) ∙ e
+
+selected-fits : (m : Mmc3) (v : ℕ) → fits m ≡ true → fits (selected m v) ≡ true
+unfolding selected
+selected-fits m v e =
+    let p = ranged m e in
+    in-fits (selected m v)
+    (record { select = omega arith; prgmode = omega arith; chrmode = omega arith; r0 = p .r0; r1 = p .r1; r6 = p .r6; r7 = p .r7 })
+
+abbrev Fits : Wrote → Type 0
+Fits w = fits (w .mmc3) ≡ true
+
+pub written-fits : (m : Mmc3) (v a : ℕ) → fits m ≡ true → fits (written m v a .mmc3) ≡ true
+unfolding written writtenEven writtenOdd kept latched marked switched
+written-fits m v a e =
+    either Fits (eqb (a % 2) 0)
+    (either Fits (ltb a 0x8000) e
+    (either Fits (ltb a 0xA000) (selected-fits m v e)
+    (either Fits (ltb a 0xC000) e
+    (either Fits (ltb a 0xE000) (with-irq m _ ∙ e) (with-irq m _ ∙ e)))))
+    (either Fits (ltb a 0x8000) e
+    (either Fits (ltb a 0xA000) (in-fits (stored m v) (stored-ranged m v (ranged m e)))
+    (either Fits (ltb a 0xC000) e
+    (either Fits (ltb a 0xE000) (with-irq m _ ∙ e) (with-irq m _ ∙ e)))))
+
+-- what a write asks of the screens is one that a header can ask for
+abbrev pub headed : Mirrors → Bool
+headed AsBefore = true
+headed (As m) = isHeaders m
+
+abbrev Headed : Wrote → Type 0
+Headed w = headed (w .mirrors) ≡ true
+
+pub written-headed : (m : Mmc3) (v a : ℕ) → headed (written m v a .mirrors) ≡ true
+unfolding written writtenEven writtenOdd kept screens
+written-headed m v a =
+    either Headed (eqb (a % 2) 0)
+    (either Headed (ltb a 0x8000) refl
+    (either Headed (ltb a 0xA000) refl
+    (either Headed (ltb a 0xC000) (either (λ s. isHeaders s ≡ true) (eqb (v % 2) 1) refl refl)
+    (either Headed (ltb a 0xE000) refl refl))))
+    (either Headed (ltb a 0x8000) refl
+    (either Headed (ltb a 0xA000) refl (either Headed (ltb a 0xC000) refl (either Headed (ltb a 0xE000) refl refl))))

@@ -1,0 +1,28 @@
+-- A conjunction of tests, taken apart. Assumes nothing.
+use mathlib.Core.Path.{_≡_, refl}
+use mathlib.Core.Bool.{Bool, true, false, false≢true, _&&_}
+
+pub and-left : (x y : Bool) → (x && y) ≡ true → x ≡ true
+and-left true y e = refl
+and-left false y e = e
+
+pub and-right : (x y : Bool) → (x && y) ≡ true → y ≡ true
+and-right true y e = e
+and-right false y e = absurd (false≢true e)
+
+pub and-both : (x y : Bool) → x ≡ true → y ≡ true → (x && y) ≡ true
+and-both true y e f = f
+and-both false y e f = e
+
+pub split-3 : (a b c : Bool) → (a && b && c) ≡ true → (a ≡ true) × (b ≡ true) × (c ≡ true)
+split-3 a b c e = let l = and-left (a && b) c e in (and-left a b l, and-right a b l, and-right (a && b) c e)
+
+pub split-4 : (a b c d : Bool) → (a && b && c && d) ≡ true → (a ≡ true) × (b ≡ true) × (c ≡ true) × (d ≡ true)
+split-4 a b c d e =
+    let s = split-3 a b c (and-left (a && b && c) d e) in
+    (s .0, s .1, s .2, and-right (a && b && c) d e)
+
+pub split-5 : (a b c d f : Bool) → (a && b && c && d && f) ≡ true → (a ≡ true) × (b ≡ true) × (c ≡ true) × (d ≡ true) × (f ≡ true)
+split-5 a b c d f e =
+    let s = split-4 a b c d (and-left (a && b && c && d) f e) in
+    (s .0, s .1, s .2, s .3, and-right (a && b && c && d) f e)
