@@ -5,3 +5,4 @@ mod Cases
 mod Mmc1Ranges
 mod Mmc3Ranges
 pub mod Ranges
+pub mod Within

@@ -1,3 +1,4 @@
 pub mod Loads
 pub mod PLines
 pub mod Clocks
+pub mod Within

@@ -1,0 +1,24 @@
+-- What a place names, and whether it lies inside.
+use Prim.Native.Nat.{ℕ, _+_, _<_}
+use Rattle.cartridge.specs.Load.{prgTotal}
+use Rattle.cartridge.specs.declared.Cartridge.{Cartridge}
+use Rattle.places.specs.declared.Place.{Place}
+use Rattle.places.specs.declared.Place.the-variants.{Prg, Chr, PrgRam, ChrRam, Zero, Refused}
+
+-- a place of the image lies before its end, a place of a RAM among its 8,192 bytes
+abbrev pub Lies : Cartridge → Place → Type 0
+Lies c (Prg i) = 16 + i < c .length
+Lies c (Chr i) = 16 + prgTotal c + i < c .length
+Lies c (PrgRam i) = i < 8192
+Lies c (ChrRam i) = i < 8192
+Lies c Zero = Unit {0}
+Lies c (Refused why) = Unit {0}
+
+-- a place that is no refusal
+abbrev pub Found : Place → Type 0
+Found (Prg i) = Unit {0}
+Found (Chr i) = Unit {0}
+Found (PrgRam i) = Unit {0}
+Found (ChrRam i) = Unit {0}
+Found Zero = Unit {0}
+Found (Refused why) = ⊥
