@@ -1,3 +1,4 @@
+mod Opened
 pub mod PLines
 pub mod Clocks
 pub mod Unique
@@ -6,3 +7,4 @@ mod Mmc1Ranges
 mod Mmc3Ranges
 pub mod Ranges
 pub mod Within
+pub mod Useless

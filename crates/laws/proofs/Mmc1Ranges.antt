@@ -37,10 +37,10 @@ serially : (s : Serial) → serialFits s ≡ true → Serially s
 unfolding serialFits
 serially s e =
     let p = split-3 (ltb (s .count) 5) (ltb (s .value) 32) (eqb (s .value % 2 ^ (5 - s .count)) 0) e in
-    record
-    { count = ltb-true (s .count) 5 (p .0)
-    ; value = ltb-true (s .value) 32 (p .1)
-    ; multiple-of = eqb-true (s .value % 2 ^ (5 - s .count)) 0 (p .2)
+    record {
+      count = ltb-true (s .count) 5 (p .0);
+      value = ltb-true (s .value) 32 (p .1);
+      multiple-of = eqb-true (s .value % 2 ^ (5 - s .count)) 0 (p .2);
     }
 
 serial-fits : (s : Serial) → Serially s → serialFits s ≡ true
@@ -58,12 +58,12 @@ ranged : (r : Regs) → regsFits r ≡ true → Ranged r
 unfolding regsFits
 ranged r e =
     let p = split-5 (ltb (r .prgmode) 4) (ltb (r .chrmode) 2) (ltb (r .chr0) 32) (ltb (r .chr1) 32) (ltb (r .prg) 16) e in
-    record
-    { prgmode = ltb-true (r .prgmode) 4 (p .0)
-    ; chrmode = ltb-true (r .chrmode) 2 (p .1)
-    ; chr0 = ltb-true (r .chr0) 32 (p .2)
-    ; chr1 = ltb-true (r .chr1) 32 (p .3)
-    ; prg = ltb-true (r .prg) 16 (p .4)
+    record {
+      prgmode = ltb-true (r .prgmode) 4 (p .0);
+      chrmode = ltb-true (r .chrmode) 2 (p .1);
+      chr0 = ltb-true (r .chr0) 32 (p .2);
+      chr1 = ltb-true (r .chr1) 32 (p .3);
+      prg = ltb-true (r .prg) 16 (p .4);
     }
 
 regs-fit : (r : Regs) → Ranged r → regsFits r ≡ true
@@ -107,20 +107,23 @@ written-fits mode m v a e = go (ltb a 0x8000) (isSigned v) (ltb (m .serial .coun
   where
     s : Serially (m .serial)
     s = serially (m .serial) (and-left (serialFits (m .serial)) (regsFits (m .regs)) e)
+
     r : Ranged (m .regs)
     r = ranged (m .regs) (and-right (serialFits (m .serial)) (regsFits (m .regs)) e)
+
     none : Serially (record { count = 0; value = 0 })
     none = record { count = omega arith; value = omega arith; multiple-of = refl }
+
     go : (x y z : Bool) → ltb a 0x8000 ≡ x → isSigned v ≡ y → ltb (m .serial .count) 4 ≡ z → fits (written mode m v a .mmc1) ≡ true
     go true y z d f g = rw d e
     go false true z d f g = rw (d, f) (joined (record { serial = record { count = 0; value = 0 }; regs = reset mode (m .regs) }) none (resets mode (m .regs) r))
     go false false true d f g =
         rw (d, f, g)
         (joined (record { serial = record { count = m .serial .count + 1; value = shifted (m .serial) v }; regs = m .regs })
-        (record
-        { count = omega (arith, ltb-true (m .serial .count) 4 g)
-        ; value = below-32 (m .serial .value) v (s .value)
-        ; multiple-of = multiple (m .serial .count) (m .serial .value) v (ltb-true (m .serial .count) 4 g) (s .multiple-of)
+        (record {
+          count = omega (arith, ltb-true (m .serial .count) 4 g);
+          value = below-32 (m .serial .value) v (s .value);
+          multiple-of = multiple (m .serial .count) (m .serial .value) v (ltb-true (m .serial .count) 4 g) (s .multiple-of);
         })
         r)
     go false false false d f g =

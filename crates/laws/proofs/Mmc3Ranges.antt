@@ -45,14 +45,14 @@ unfolding fits register
 ranged m e =
     let p = split-5 (ltb (m .select) 8 && ltb (m .prgmode) 2 && ltb (m .chrmode) 2) (eqb (register m 0 % 2) 0) (eqb (register m 1 % 2) 0) (ltb (register m 6) 64) (ltb (register m 7) 64) e in
     let q = split-3 (ltb (m .select) 8) (ltb (m .prgmode) 2) (ltb (m .chrmode) 2) (p .0) in
-    record
-    { select = ltb-true (m .select) 8 (q .0)
-    ; prgmode = ltb-true (m .prgmode) 2 (q .1)
-    ; chrmode = ltb-true (m .chrmode) 2 (q .2)
-    ; r0 = eqb-true (register m 0 % 2) 0 (p .1)
-    ; r1 = eqb-true (register m 1 % 2) 0 (p .2)
-    ; r6 = ltb-true (register m 6) 64 (p .3)
-    ; r7 = ltb-true (register m 7) 64 (p .4)
+    record {
+      select = ltb-true (m .select) 8 (q .0);
+      prgmode = ltb-true (m .prgmode) 2 (q .1);
+      chrmode = ltb-true (m .chrmode) 2 (q .2);
+      r0 = eqb-true (register m 0 % 2) 0 (p .1);
+      r1 = eqb-true (register m 1 % 2) 0 (p .2);
+      r6 = ltb-true (register m 6) 64 (p .3);
+      r7 = ltb-true (register m 7) 64 (p .4);
     }
 
 in-fits : (m : Mmc3) → Ranged m → fits m ≡ true
@@ -73,23 +73,25 @@ kept-six s v h = let g : 2 ≤ s = omega arith in rw (le-ltb s 2 g, le-leb 6 s h
 stored-ranged : (m : Mmc3) (v : ℕ) → Ranged m → Ranged (stored m v)
 unfolding stored
 stored-ranged m v p =
-    record
-    { select = p .select
-    ; prgmode = p .prgmode
-    ; chrmode = p .chrmode
-    ; r0 = even 0 (omega arith) (p .r0)
-    ; r1 = even 1 (omega arith) (p .r1)
-    ; r6 = six 6 (omega arith) (p .r6)
-    ; r7 = six 7 (omega arith) (p .r7)
+    record {
+      select = p .select;
+      prgmode = p .prgmode;
+      chrmode = p .chrmode;
+      r0 = even 0 (omega arith) (p .r0);
+      r1 = even 1 (omega arith) (p .r1);
+      r6 = six 6 (omega arith) (p .r6);
+      r7 = six 7 (omega arith) (p .r7);
     }
   where
     x : ℕ
     x = keptBits (m .select) v
+
     even : (k : ℕ) → k < 2 → getD (m .regs) k 0 % 2 ≡ 0 → getD (set (m .regs) (m .select) x) k 0 % 2 ≡ 0
     even k h e =
         ⊎-elim {C = getD (set (m .regs) (m .select) x) k 0 % 2 ≡ 0} (λ same. ap (λ (n : ℕ). n % 2) same ∙ e)
         (λ new. ap (λ (n : ℕ). n % 2) (new .1) ∙ kept-even (m .select) v (omega (arith, new .0)))
         (get-set (m .regs) (m .select) x k)
+
     six : (k : ℕ) → 6 ≤ k → getD (m .regs) k 0 < 64 → getD (set (m .regs) (m .select) x) k 0 < 64
     six k h e =
         ⊎-elim {C = getD (set (m .regs) (m .select) x) k 0 < 64} (λ same. omega (arith, same))

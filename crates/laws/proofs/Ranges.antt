@@ -60,10 +60,10 @@ parts : (b : Board) (k : MapperType) → b .cart .mapper ≡ k → inRange b ≡
 unfolding inRange registersFit mirroringFits
 parts b k e h =
     let p = split-3 (couldLoad (b .cart)) (registersFit b) (mirroringFits b) h in
-    record
-    { could = p .0
-    ; regs = subst (λ (x : MapperType). registersIn x b ≡ true) e (p .1)
-    ; screens = subst (λ (x : MapperType). screensFit (b .cart .mode) x (same (b .mirroring) (b .cart .mirroring)) (isHeaders (b .mirroring)) ≡ true) e (p .2)
+    record {
+      could = p .0;
+      regs = subst (λ (x : MapperType). registersIn x b ≡ true) e (p .1);
+      screens = subst (λ (x : MapperType). screensFit (b .cart .mode) x (same (b .mirroring) (b .cart .mirroring)) (isHeaders (b .mirroring)) ≡ true) e (p .2);
     }
 
 whole : (b : Board) (k : MapperType) → b .cart .mapper ≡ k → Parts b k → inRange b ≡ true
@@ -108,20 +108,20 @@ module _ (b : Board) (v a : ℕ) where
       let q = split-4 (uxrom.isStart (b .uxrom)) (cnrom.isStart (b .cnrom)) (mmc1.fits (b .mmc1)) (mmc3.isStart (b .mmc3)) (p .regs) in
       let w = mmc1-write.written (b .cart .mode) (b .mmc1) v a in
       whole (movedOn Mmc1 b v a .board) Mmc1 e
-      (record
-      { could = p .could
-      ; regs = join (join (join (q .0) (q .1)) (mmc1-ranges.written-fits (b .cart .mode) (b .mmc1) v a (q .2))) (q .3)
-      ; screens = turns-mmc1 (b .cart .mode) (b .mirroring) (b .cart .mirroring) (w .mirrors) (p .screens)
+      (record {
+        could = p .could;
+        regs = join (join (join (q .0) (q .1)) (mmc1-ranges.written-fits (b .cart .mode) (b .mmc1) v a (q .2))) (q .3);
+        screens = turns-mmc1 (b .cart .mode) (b .mirroring) (b .cart .mirroring) (w .mirrors) (p .screens);
       })
   moved-in Mmc3 e h =
       let p = parts b Mmc3 e h in
       let q = split-4 (uxrom.isStart (b .uxrom)) (cnrom.isStart (b .cnrom)) (mmc1.isUnused (b .mmc1)) (mmc3.fits (b .mmc3)) (p .regs) in
       let w = mmc3-write.written (b .mmc3) v a in
       whole (movedOn Mmc3 b v a .board) Mmc3 e
-      (record
-      { could = p .could
-      ; regs = join (join (join (q .0) (q .1)) (q .2)) (mmc3-ranges.written-fits (b .mmc3) v a (q .3))
-      ; screens = turns-mmc3 (b .cart .mode) (b .mirroring) (b .cart .mirroring) (w .mirrors) (mmc3-ranges.written-headed (b .mmc3) v a) (p .screens)
+      (record {
+        could = p .could;
+        regs = join (join (join (q .0) (q .1)) (q .2)) (mmc3-ranges.written-fits (b .mmc3) v a (q .3));
+        screens = turns-mmc3 (b .cart .mode) (b .mirroring) (b .cart .mirroring) (w .mirrors) (mmc3-ranges.written-headed (b .mmc3) v a) (p .screens);
       })
 
   -- a refused write leaves the board, any other moves it

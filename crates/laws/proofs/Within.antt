@@ -47,14 +47,15 @@ roomy b h =
     let p = split-3 (couldLoad c) (registersFit b) (mirroringFits b) h in
     let q = split-3 (not (badPrg (mapperNumber (c .mapper)) (c .prg)) && not (oddCounts (c .mode) (c .prg) (c .chr))) (ltb (c .prg) 256 && ltb (c .chr) 256 && leb (needed (c .prg) (c .chr)) (c .length)) (isHeaders (c .mirroring)) (p .0) in
     let n = not-true (badPrg (mapperNumber (c .mapper)) (c .prg)) (and-left (not (badPrg (mapperNumber (c .mapper)) (c .prg))) (not (oddCounts (c .mode) (c .prg) (c .chr))) (q .0)) in
-    record
-    { some = nonzero (c .prg) ((eqb (mapperNumber (c .mapper)) 0 || eqb (mapperNumber (c .mapper)) 3) && ltb 2 (c .prg)) n
-    ; room = leb-true (needed (c .prg) (c .chr)) (c .length) (split-3 (ltb (c .prg) 256) (ltb (c .chr) 256) (leb (needed (c .prg) (c .chr)) (c .length)) (q .1) .2)
+    record {
+      some = nonzero (c .prg) ((eqb (mapperNumber (c .mapper)) 0 || eqb (mapperNumber (c .mapper)) 3) && ltb 2 (c .prg)) n;
+      room = leb-true (needed (c .prg) (c .chr)) (c .length) (split-3 (ltb (c .prg) 256) (ltb (c .chr) 256) (leb (needed (c .prg) (c .chr)) (c .length)) (q .1) .2);
     }
   where
     first : (x y : Bool) → (x || y) ≡ false → x ≡ false
     first true y e = e
     first false y e = refl
+
     nonzero : (p : ℕ) (y : Bool) → (eqb p 0 || y) ≡ false → 0 < p
     nonzero p y e = let n : p ≡ 0 → ⊥ = eqb-false p 0 (first (eqb p 0) y e) in omega arith
 
@@ -177,6 +178,7 @@ writes-on mode k b a e r h = go mode k e
   where
     c : Cartridge
     c = b .cart
+
     go : (mode : Mode) (k : MapperType) → c .mode ≡ mode → Lies c (writePlaceOn k b a)
     go House Nrom e = subst⁻¹ (λ (m : Mode). Lies c (nrom.writePlaceIn m c a)) e (nrom-write-lies c r a h)
     go House Mmc1 e = subst⁻¹ (λ (m : Mode). Lies c (mmc1.writePlaceIn m (b .mmc1) c a)) e (mmc1-write-lies c r a h)
@@ -259,6 +261,7 @@ module _ (b : Board) (e : b .cart .mode ≡ OnBoard) (ok : inRange b ≡ true) (
     where
       r : Roomy (b .cart)
       r = roomy b ok
+
       go : (k : MapperType) → Found (readPlaceOn k b a)
       go Nrom = nrom-found (b .cart) r e a
       go Mmc1 = mmc1-found (b .cart) r e (b .mmc1) a
@@ -272,8 +275,10 @@ module _ (b : Board) (e : b .cart .mode ≡ OnBoard) (ok : inRange b ≡ true) (
     where
       c : Cartridge
       c = b .cart
+
       r : Roomy c
       r = roomy b ok
+
       go : (k : MapperType) → Found (writePlaceOn k b a)
       go Nrom = subst⁻¹ (λ (m : Mode). Found (nrom.writePlaceIn m c a)) e (nrom-found c r e a)
       go Mmc1 = subst⁻¹ (λ (m : Mode). Found (mmc1.writePlaceIn m (b .mmc1) c a)) e (mmc1-found c r e (b .mmc1) a)

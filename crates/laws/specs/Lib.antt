@@ -2,3 +2,4 @@ pub mod Loads
 pub mod PLines
 pub mod Clocks
 pub mod Within
+pub mod Useless
