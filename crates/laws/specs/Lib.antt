@@ -3,3 +3,4 @@ pub mod PLines
 pub mod Clocks
 pub mod Within
 pub mod Useless
+pub mod Choices
