@@ -19,6 +19,7 @@ some-bank size total p h = le-div-iff-mul-le {k = size} {x = 1} {y = total} p .1
 -- the bank that board mode shows for the number n
 pub record Shown (n size total : ℕ) : Type 0 where
   pub number : ℕ
+  pub modulo : number ≡ n % (total / size)
   pub start : bankStart Board n size total ≡ At (number * size)
   pub below : number < total / size
   pub within : number * size + size ≤ total
@@ -28,4 +29,4 @@ unfolding bankStart shown startAt
 modulo-rule n size total p h =
     let b = mod-lt n (some-bank size total p h) in
     let w = ends-within (n % (total / size)) size total b in
-    record { number = n % (total / size); start = rw (le-leb _ _ w) refl; below = b; within = w }
+    record { number = n % (total / size); modulo = refl; start = rw (le-leb _ _ w) refl; below = b; within = w }

@@ -11,13 +11,16 @@ use Rattle.boards.specs.declared.Clocked.{Clocked}
 use Rattle.boards.specs.declared.ClockAnswer.{ClockAnswer}
 use Rattle.boards.specs.declared.ClockAnswer.the-variants.{No, Yes, Refused}
 
+-- a clock's answer, as the trace prints 1 and 0
 unfoldable pub yesNo : Bool → ClockAnswer
 yesNo true = Yes
 yesNo false = No
 
+-- MMC3: the unit moves, the answer is its own
 unfoldable pub mmc3Ticked : Board → Clocked
 mmc3Ticked b = let t = mmc3.clocked (b .cart .mode) (b .mmc3) in record { board = withMmc3 b (t .mmc3); answer = yesNo (t .answer) }
 
+-- the board as it was, beside an answer
 unfoldable pub unmoved : Board → ClockAnswer → Clocked
 unmoved b answer = record { board = b; answer = answer }
 
@@ -29,6 +32,7 @@ tickedOn Mmc1 b = unmoved b No
 tickedOn Uxrom b = unmoved b No
 tickedOn Cnrom b = unmoved b No
 
+-- a clock of the mapper that the cartridge names
 unfoldable pub ticked : Board → Clocked
 ticked b = tickedOn (b .cart .mapper) b
 

@@ -25,6 +25,7 @@ registersIn Uxrom b = cnrom.isStart (b .cnrom) && mmc1.isUnused (b .mmc1) && mmc
 registersIn Cnrom b = uxrom.isStart (b .uxrom) && cnrom.fits (b .cnrom) && mmc1.isUnused (b .mmc1) && mmc3.isStart (b .mmc3)
 registersIn Mmc3 b = uxrom.isStart (b .uxrom) && cnrom.isStart (b .cnrom) && mmc1.isUnused (b .mmc1) && mmc3.fits (b .mmc3)
 
+-- of the mapper that the cartridge names
 unfoldable pub registersFit : Board → Bool
 registersFit b = registersIn (b .cart .mapper) b
 
@@ -37,6 +38,7 @@ screensFit OnBoard Nrom same headers = same
 screensFit OnBoard Uxrom same headers = same
 screensFit OnBoard Cnrom same headers = same
 
+-- that sentence, of a board
 unfoldable pub mirroringFits : Board → Bool
 mirroringFits b =
     screensFit (b .cart .mode) (b .cart .mapper) (same (b .mirroring) (b .cart .mirroring)) (isHeaders (b .mirroring))

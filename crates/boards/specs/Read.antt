@@ -23,6 +23,7 @@ readPlaceOn Uxrom b a = uxrom.readPlace (b .uxrom) (b .cart) a
 readPlaceOn Cnrom b a = cnrom.readPlace (b .cnrom) (b .cart) a
 readPlaceOn Mmc3 b a = mmc3.readPlace (b .mmc3) (b .cart) a
 
+-- of the mapper that the cartridge names
 unfoldable pub readPlace : Board → ℕ → Place
 readPlace b a = readPlaceOn (b .cart .mapper) b a
 

@@ -1,6 +1,7 @@
 -- Runs: a list of calls, the board after it and its answers, refused calls included.
 use Prim.Native.Nat.{ℕ}
 use mathlib.Core.List.{List, [], _∷_}
+use Rattle.places.specs.Places.{storedPrg, storedChr}
 use Rattle.places.specs.declared.ReadAnswer.{ReadAnswer}
 use Rattle.boards.specs.Read as reads
 use Rattle.boards.specs.Write.{writtenAs, landing}
@@ -21,6 +22,7 @@ pub data Call : Type 0 where
   write : Lent → ℕ → ℕ → Call
   clock : Call
 
+-- what a call of each kind answers
 pub data Answer : Type 0 where
   toRead : ReadAnswer → Answer
   toWrite : WriteAnswer → Answer
@@ -37,6 +39,18 @@ unfoldable pub answer : Board → Call → Answer
 answer b (read l a) = toRead (reads.read b (l .image) (l .prg) (l .chr) a)
 answer b (write l a v) = toWrite (writtenAs b (landing b (l .image) (l .prg) (l .chr) a) v a .answer)
 answer b clock = toClock (clocks.clock b .answer)
+
+-- what it leaves in the lent PRG RAM; only a write stores, and a clock is lent nothing
+unfoldable pub prgAfter : Board → Call → List ℕ
+prgAfter b (read l a) = l .prg
+prgAfter b (write l a v) = storedPrg (landing b (l .image) (l .prg) (l .chr) a) v (l .prg)
+prgAfter b clock = []
+
+-- and in the lent CHR RAM
+unfoldable pub chrAfter : Board → Call → List ℕ
+chrAfter b (read l a) = l .chr
+chrAfter b (write l a v) = storedChr (landing b (l .image) (l .prg) (l .chr) a) v (l .chr)
+chrAfter b clock = []
 
 -- the board after a list of calls
 unfoldable pub after : Board → List Call → Board

@@ -16,14 +16,14 @@ use Rattle.cartridge.specs.declared.Loaded as Cart
 use Rattle.uxrom.specs.Uxrom as uxrom
 use Rattle.cnrom.specs.Cnrom as cnrom
 use Rattle.mmc1.specs.Range as mmc1
-use Rattle.mmc1.specs.declared.Mmc1 as Serial
+use Rattle.mmc1.specs.declared.Mmc1 as mmc1-type
 use Rattle.mmc3.specs.Range as mmc3
 use Rattle.boards.specs.declared.Board.{Board}
 use Rattle.boards.specs.declared.Loaded.{Loaded}
 use Rattle.boards.specs.declared.LoadAnswer.the-variants.{Accepted, Refused}
 
 -- PRG mode 3 is MMC1's start value only
-unfoldable pub mmc1Start : MapperType → Serial.Mmc1
+unfoldable pub mmc1Start : MapperType → mmc1-type.Mmc1
 mmc1Start Mmc1 = mmc1.start
 mmc1Start Nrom = mmc1.unused
 mmc1Start Uxrom = mmc1.unused
@@ -46,6 +46,7 @@ startOf c =
 unfoldable pub nothing : Board
 nothing = startOf (record { mode = House; mapper = Nrom; nes2 = false; mirroring = Horizontal; prg = 0; chr = 0; length = 0 })
 
+-- an accepted cartridge starts its board; "A refusal yields its number only"
 unfoldable pub loadedBoard : Cart.Loaded → Loaded
 loadedBoard (Cart.the-variants.Accepted c) = record { board = startOf c; answer = Accepted }
 loadedBoard (Cart.the-variants.Refused why) = record { board = nothing; answer = Refused why }

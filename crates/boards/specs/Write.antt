@@ -40,6 +40,7 @@ writePlaceOn Uxrom b a = uxrom.writePlace (b .uxrom) (b .cart) a
 writePlaceOn Cnrom b a = cnrom.writePlace (b .cnrom) (b .cart) a
 writePlaceOn Mmc3 b a = mmc3.writePlace (b .mmc3) (b .cart) a
 
+-- of the mapper that the cartridge names
 unfoldable pub writePlace : Board → ℕ → Place
 writePlace b a = writePlaceOn (b .cart .mapper) b a
 
@@ -47,15 +48,19 @@ writePlace b a = writePlaceOn (b .cart .mapper) b a
 abbrev pub withMirroring : Board → Mirroring → Board
 withMirroring b m = record { cart = b .cart; mirroring = m; uxrom = b .uxrom; cnrom = b .cnrom; mmc1 = b .mmc1; mmc3 = b .mmc3 }
 
+-- with another UxROM bank
 abbrev pub withUxrom : Board → uxrom-type.Uxrom → Board
 withUxrom b u = record { cart = b .cart; mirroring = b .mirroring; uxrom = u; cnrom = b .cnrom; mmc1 = b .mmc1; mmc3 = b .mmc3 }
 
+-- with another CNROM bank
 abbrev pub withCnrom : Board → cnrom-type.Cnrom → Board
 withCnrom b u = record { cart = b .cart; mirroring = b .mirroring; uxrom = b .uxrom; cnrom = u; mmc1 = b .mmc1; mmc3 = b .mmc3 }
 
+-- with other MMC1 registers
 abbrev pub withMmc1 : Board → mmc1-type.Mmc1 → Board
 withMmc1 b m = record { cart = b .cart; mirroring = b .mirroring; uxrom = b .uxrom; cnrom = b .cnrom; mmc1 = m; mmc3 = b .mmc3 }
 
+-- with other MMC3 registers
 abbrev pub withMmc3 : Board → mmc3-type.Mmc3 → Board
 withMmc3 b m = record { cart = b .cart; mirroring = b .mirroring; uxrom = b .uxrom; cnrom = b .cnrom; mmc1 = b .mmc1; mmc3 = m }
 
@@ -68,6 +73,7 @@ unfoldable pub againstIn : Mode → Board → Mirroring
 againstIn House b = b .cart .mirroring
 againstIn OnBoard b = b .mirroring
 
+-- of the mode that the cartridge has
 abbrev pub against : Board → Mirroring
 against b = againstIn (b .cart .mode) b
 
@@ -77,6 +83,7 @@ nextMirroring House now mirrors = now
 nextMirroring OnBoard now AsBefore = now
 nextMirroring OnBoard now (As m) = m
 
+-- a notice "exactly when" they differ
 unfoldable pub noticeUnless : Bool → Mirroring → WriteAnswer
 noticeUnless same m = cond same Quiet (Notice m)
 
@@ -85,19 +92,24 @@ unfoldable pub notice : Mirroring → Mirrors → WriteAnswer
 notice old AsBefore = Quiet
 notice old (As m) = noticeUnless (same old m) m
 
+-- the board with its next mirroring, and the notice
 unfoldable pub turned : Board → Mirrors → Written
 turned b mirrors =
     record { board = withMirroring b (nextMirroring (b .cart .mode) (b .mirroring) mirrors); answer = notice (against b) mirrors }
 
+-- UxROM: the bank moves, and nothing is answered
 unfoldable pub uxromWritten : Board → ℕ → ℕ → Written
 uxromWritten b v a = quiet (withUxrom b (uxrom.written (b .uxrom) v a))
 
+-- CNROM: likewise
 unfoldable pub cnromWritten : Board → ℕ → ℕ → Written
 cnromWritten b v a = quiet (withCnrom b (cnrom.written (b .cnrom) v a))
 
+-- MMC1: the registers move, and a control load may turn the screens
 unfoldable pub mmc1Written : Board → ℕ → ℕ → Written
 mmc1Written b v a = let w = mmc1-write.written (b .cart .mode) (b .mmc1) v a in turned (withMmc1 b (w .mmc1)) (w .mirrors)
 
+-- MMC3: the registers move, and an A000 write may turn the screens
 unfoldable pub mmc3Written : Board → ℕ → ℕ → Written
 mmc3Written b v a = let w = mmc3-write.written (b .mmc3) v a in turned (withMmc3 b (w .mmc3)) (w .mirrors)
 
@@ -109,10 +121,11 @@ movedOn Uxrom b v a = uxromWritten b v a
 movedOn Cnrom b v a = cnromWritten b v a
 movedOn Mmc3 b v a = mmc3Written b v a
 
+-- of the mapper that the cartridge names
 unfoldable pub moved : Board → ℕ → ℕ → Written
 moved b v a = movedOn (b .cart .mapper) b v a
 
--- "A refusal yields its number only; the state .. hold[s] what [it] held"
+-- "A refusal yields its number only; the state and every lent buffer hold what they held"
 unfoldable pub writtenAs : Board → Place → ℕ → ℕ → Written
 writtenAs b (Refused why) v a = record { board = b; answer = NotWritten why }
 writtenAs b (Prg i) v a = moved b v a

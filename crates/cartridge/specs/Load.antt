@@ -89,7 +89,7 @@ unfoldable pub loadedAs : Verdict → Cartridge → Loaded
 loadedAs Take c = Accepted c
 loadedAs (Refuse why) c = Refused why
 
--- "An accepted load fills both RAMs with zero"; after a refusal "every lent buffer holds what it held"
+-- "An accepted load fills both RAMs with zero"; after a refusal they hold what they held
 unfoldable pub ramAfter : Verdict → List ℕ → List ℕ
 ramAfter Take ram = replicate (length ram) 0
 ramAfter (Refuse why) ram = ram
@@ -112,6 +112,7 @@ lastPrg c = c .prg - 1
 abbrev pub hasChrRam : Cartridge → Bool
 hasChrRam c = eqb (c .chr) 0
 
+-- how many bytes of CHR there are
 unfoldable pub chrTotal : Cartridge → ℕ
 chrTotal c = cond (hasChrRam c) KB8 (c .chr * KB8)
 

@@ -40,10 +40,12 @@ houseReadPlace u c a =
 unfoldable pub boardReadPlace : Cnrom → Cartridge → ℕ → Place
 boardReadPlace u c a = cond (ltb a 0x2000) (chrPlace c KB8 (u .bank) a) (fixedPrg c a)
 
+-- where a read lands in each mode
 unfoldable pub readPlaceIn : Mode → Cnrom → Cartridge → ℕ → Place
 readPlaceIn House u c a = houseReadPlace u c a
 readPlaceIn Board u c a = boardReadPlace u c a
 
+-- in the mode that the cartridge has
 abbrev pub readPlace : Cnrom → Cartridge → ℕ → Place
 readPlace u c a = readPlaceIn (c .mode) u c a
 
@@ -56,6 +58,7 @@ unfoldable pub writePlaceIn : Mode → Cnrom → Cartridge → ℕ → Place
 writePlaceIn House u c a = houseWritePlace a
 writePlaceIn Board u c a = boardReadPlace u c a
 
+-- in the mode that the cartridge has
 abbrev pub writePlace : Cnrom → Cartridge → ℕ → Place
 writePlace u c a = writePlaceIn (c .mode) u c a
 

@@ -94,11 +94,14 @@ impl Cnrom {
         }
     }
 
-    pub fn write8(self, value: u8, address: u16) -> Self
+    pub fn write8(mut self, value: u8, address: u16) -> Self
         ensures { λ r. ⌜ r ≡ written self value address ⌝ }
     {
         match address {
-            0x8000..=0xffff => Cnrom { bank: value % 4 },
+            0x8000..=0xffff => {
+                self.bank = value % 4;
+                self
+            }
             _ => self,
         }
     }

@@ -14,12 +14,15 @@ modeNumber Board = 1
 abbrev pub KB1 : ℕ
 KB1 = 1024
 
+-- 4,096
 abbrev pub KB4 : ℕ
 KB4 = 4096
 
+-- 8,192
 abbrev pub KB8 : ℕ
 KB8 = 8192
 
+-- 16,384, a PRG block
 abbrev pub KB16 : ℕ
 KB16 = 16384
 

@@ -1,7 +1,7 @@
 -- Ranges are kept: the board that a load gives is in range, and so is the board after any call, so no run of calls is ever refused by 10 for its state.
 -- Assumes nothing.
 use Prim.Native.Nat.{ℕ, zero, suc, _%_, _<_, _≤_}
-use mathlib.Core.Path.{_≡_, refl, sym, _∙_, subst, subst⁻¹}
+use mathlib.Core.Path.{_≡_, refl, sym, ap, _∙_, subst, subst⁻¹}
 use mathlib.Core.Bool.{Bool, true, false, not, _&&_, _||_}
 use mathlib.Core.List.{List, [], _∷_}
 use native.Mathlib.Omega.{arith}
@@ -14,7 +14,7 @@ use Rattle.common.specs.declared.Mode.the-variants.{House, Board as OnBoard}
 use Rattle.memory.specs.Memory.{byte}
 use Rattle.cartridge.specs.Answers.{mapperNumber, mirroringLetter, same}
 use Rattle.cartridge.specs.Header.{headerOf, isInes, mapperOf, isSpecial, mirroringOf}
-use Rattle.cartridge.specs.Load.{badPrg, oddCounts, needed, isHeaders, couldLoad, firstOf, verdictOn, verdict, mapperType, cartridgeOf}
+use Rattle.cartridge.specs.Load.{badPrg, oddCounts, needed, isHeaders, couldLoad, firstOf, verdictOn, verdict, mapperType, cartridgeOf, loadedAs}
 use Rattle.cartridge.specs.declared.Header.{Header}
 use Rattle.cartridge.specs.declared.Cartridge.{Cartridge}
 use Rattle.cartridge.specs.declared.Mirroring.{Mirroring}
@@ -22,7 +22,8 @@ use Rattle.cartridge.specs.declared.Mirrors.{Mirrors}
 use Rattle.cartridge.specs.declared.Mirrors.the-variants.{AsBefore, As}
 use Rattle.cartridge.specs.declared.MapperType.{MapperType}
 use Rattle.cartridge.specs.declared.MapperType.the-variants.{Nrom, Mmc1, Uxrom, Cnrom, Mmc3}
-use Rattle.cartridge.specs.declared.Verdict.the-variants.{Take}
+use Rattle.cartridge.specs.declared.Verdict.{Verdict}
+use Rattle.cartridge.specs.declared.Verdict.the-variants.{Take, Refuse}
 use Rattle.places.specs.declared.Place.{Place}
 use Rattle.places.specs.declared.Place.the-variants.{Prg, Chr, PrgRam, ChrRam, Zero, Refused}
 use Rattle.uxrom.specs.Uxrom as uxrom
@@ -35,14 +36,15 @@ use Rattle.mmc3.specs.Write as mmc3-write
 use Rattle.mmc3.specs.Clock as mmc3-clock
 use Rattle.mmc3.specs.Read as mmc3-read
 use Rattle.mmc3.specs.Range as mmc3
-use Rattle.boards.specs.Start.{mmc1Start, startOf}
-use Rattle.boards.specs.Range.{registersIn, registersFit, screensFit, mirroringFits, inRange}
+use Rattle.boards.specs.Start.{mmc1Start, startOf, loadedBoard}
+use Rattle.boards.specs.Range.{registersIn, registersFit, screensFit, mirroringFits, inRange, isLoaded}
 use Rattle.boards.specs.Write.{quiet, nextMirroring, turned, uxromWritten, cnromWritten, mmc1Written, mmc3Written, movedOn, moved, writtenAs, landing}
 use Rattle.boards.specs.Clock.{mmc3Ticked, unmoved, tickedOn, ticked, clock}
 use Rattle.boards.specs.Runs.{Call, next, after}
 use Rattle.boards.specs.Runs.Call.{read, write, clock as tick}
 use Rattle.boards.specs.declared.Board.{Board}
 use Rattle.boards.specs.declared.Clocked.{Clocked}
+use Rattle.boards.specs.declared.LoadAnswer.the-variants.{Accepted}
 use Rattle.laws.proofs.Cases.{either}
 use Rattle.laws.proofs.Mmc1Ranges as mmc1-ranges
 use Rattle.laws.proofs.Mmc3Ranges as mmc3-ranges
@@ -242,3 +244,64 @@ start-in-range c h =
 pub load-in-range : (s : List ℕ) (mode : Mode) (p c : ℕ) → byte s 4 < 256 → byte s 5 < 256 → verdict s mode p c ≡ Take
     → inRange (startOf (cartridgeOf (headerOf s) mode (length s))) ≡ true
 load-in-range s mode p c h4 h5 e = start-in-range (cartridgeOf (headerOf s) mode (length s)) (could-load s mode p c h4 h5 e)
+
+-- no call changes what was loaded
+kept-on : (k : MapperType) (b : Board) (v a : ℕ) → movedOn k b v a .board .cart ≡ b .cart
+unfolding movedOn quiet uxromWritten cnromWritten mmc1Written mmc3Written turned
+kept-on Nrom b v a = refl
+kept-on Mmc1 b v a = refl
+kept-on Uxrom b v a = refl
+kept-on Cnrom b v a = refl
+kept-on Mmc3 b v a = refl
+
+kept-as : (p : Place) (b : Board) (v a : ℕ) → writtenAs b p v a .board .cart ≡ b .cart
+unfolding writtenAs moved
+kept-as (Refused why) b v a = refl
+kept-as (Prg i) b v a = kept-on (b .cart .mapper) b v a
+kept-as (Chr i) b v a = kept-on (b .cart .mapper) b v a
+kept-as (PrgRam i) b v a = kept-on (b .cart .mapper) b v a
+kept-as (ChrRam i) b v a = kept-on (b .cart .mapper) b v a
+kept-as Zero b v a = kept-on (b .cart .mapper) b v a
+
+ticked-as : (k : MapperType) (b : Board) → tickedOn k b .board .cart ≡ b .cart
+unfolding tickedOn unmoved mmc3Ticked
+ticked-as Nrom b = refl
+ticked-as Mmc1 b = refl
+ticked-as Uxrom b = refl
+ticked-as Cnrom b = refl
+ticked-as Mmc3 b = refl
+
+pub next-keeps-cart : (b : Board) (c : Call) → next b c .cart ≡ b .cart
+unfolding next clock unmoved ticked
+next-keeps-cart b (read l a) = refl
+next-keeps-cart b (write l a v) = kept-as (landing b (l .image) (l .prg) (l .chr) a) b v a
+next-keeps-cart b tick = either (λ (r : Clocked). r .board .cart ≡ b .cart) (inRange b) (ticked-as (b .cart .mapper) b) refl
+
+pub run-keeps-cart : (b : Board) (cs : List Call) → after b cs .cart ≡ b .cart
+unfolding after
+run-keeps-cart b [] = refl
+run-keeps-cart b (c ∷ cs) = run-keeps-cart (next b c) cs ∙ next-keeps-cart b c
+
+-- a board that only calls have touched since its load is never refused by 10: it stays in range, and so does the length that it was loaded with
+pub never-refused-by-10 : (b : Board) (cs : List Call) (length : ℕ) → inRange b ≡ true → length ≡ b .cart .length → isLoaded (after b cs) length ≡ true
+unfolding isLoaded
+never-refused-by-10 b cs length h e =
+    join (run-in-range b cs h) (eq-eqb length (after b cs .cart .length) (e ∙ sym (ap (λ (c : Cartridge). c .length) (run-keeps-cart b cs))))
+
+-- the same, of the reply that a load owes
+accepted : (v : Verdict) (c : Cartridge) → loadedBoard (loadedAs v c) .answer ≡ Accepted → v ≡ Take
+unfolding loadedBoard loadedAs
+accepted Take c e = refl
+accepted (Refuse why) c e = absurd (let z : _≡_ {A = ℕ} 0 1 = cc in omega arith)
+
+pub loaded-in-range : (s : List ℕ) (mode : Mode) (p c : ℕ) → byte s 4 < 256 → byte s 5 < 256
+    → loadedBoard (loadedAs (verdict s mode p c) (cartridgeOf (headerOf s) mode (length s))) .answer ≡ Accepted
+    → inRange (loadedBoard (loadedAs (verdict s mode p c) (cartridgeOf (headerOf s) mode (length s))) .board) ≡ true
+unfolding loadedBoard loadedAs
+loaded-in-range s mode p c h4 h5 e =
+    let t = accepted (verdict s mode p c) (cartridgeOf (headerOf s) mode (length s)) e in
+    subst⁻¹ (λ (v : Verdict). inRange (loadedBoard (loadedAs v (cartridgeOf (headerOf s) mode (length s))) .board) ≡ true) t (load-in-range s mode p c h4 h5 t)
+
+-- "Greatest needed length: 6,266,896"
+pub greatest-length : needed 255 255 ≡ 6266896
+greatest-length = refl

@@ -5,7 +5,6 @@ use mathlib.Core.Bool.{Bool, true, false, false≢true}
 use native.Mathlib.Omega.{arith}
 use Rattle.common.specs.declared.Mode.the-variants.{House}
 use Rattle.places.specs.declared.ReadAnswer.the-variants.{Byte}
-use Rattle.boards.specs.Range.{inRange}
 use Rattle.boards.specs.Runs.{Lent, Answer, next, answer}
 use Rattle.boards.specs.Runs.Call.{read, write}
 use Rattle.boards.specs.Runs.Answer.{toRead}
@@ -20,10 +19,6 @@ board = loadOf House uxrom .board
 
 abbrev lent : Lent
 lent = record { image = uxrom; prg = ram; chr = ram }
-
-ready : inRange board ≡ true
-unfolding opened
-ready = refl
 
 reads-7 : answer board (read lent 0x8000) ≡ toRead (Byte 7)
 unfolding opened
@@ -46,28 +41,31 @@ unfolding opened
 rests = refl
 
 module _ (p : Program) (m : Meets p) where
+  first : p .reply board (read lent 0x8000) ≡ toRead (Byte 7)
+  first = m .replies board (read lent 0x8000) ∙ reads-7
+
+  second : p .reply board (read lent 0x8001) ≡ toRead (Byte 0)
+  second = m .replies board (read lent 0x8001) ∙ reads-0
+
   pub some-call-is-served : RefusesAll p → ⊥
-  some-call-is-served all =
-      false≢true (sym (ap isRefusal (m .replies board (read lent 0x8000) ready ∙ reads-7)) ∙ all board (read lent 0x8000))
+  some-call-is-served all = false≢true (sym (ap isRefusal first) ∙ all board (read lent 0x8000))
 
   pub some-byte-differs : (v : ℕ) → ReadsOnly v p → ⊥
   some-byte-differs v only =
-      let x = sym (only board lent 0x8000) ∙ m .replies board (read lent 0x8000) ready ∙ reads-7 in
-      let y = sym (only board lent 0x8001) ∙ m .replies board (read lent 0x8001) ready ∙ reads-0 in
+      let x = sym (only board lent 0x8000 (ap isRefusal first)) ∙ first in
+      let y = sym (only board lent 0x8001 (ap isRefusal second)) ∙ second in
       let z : _≡_ {A = ℕ} 7 0 = cc (x, y) in
       omega arith
 
   pub some-write-moves : NeverMoves p → ⊥
   some-write-moves never =
-      let x = sym (m .turns board (write lent 0x8000 1) ready) ∙ never board lent 0x8000 1 in
+      let x = sym (m .turns board (write lent 0x8000 1)) ∙ never .board board lent 0x8000 1 in
       let z : _≡_ {A = ℕ} 1 0 = sym moves ∙ ap (λ (b : Board). b .uxrom .bank) x ∙ rests in
       omega arith
 
   pub some-answer-is-new : Repeats p → ⊥
   some-answer-is-new again =
-      let x = m .replies board (read lent 0x8000) ready ∙ reads-7 in
-      let t = m .turns board (read lent 0x8000) ready ∙ stays in
-      let y = sym (ap (λ (b : Board). p .reply b (read lent 0x8001)) t) ∙ again board (read lent 0x8000) (read lent 0x8001) in
-      let w = m .replies board (read lent 0x8001) ready ∙ reads-0 in
-      let z : _≡_ {A = ℕ} 7 0 = cc (x, y, w) in
+      let t = m .turns board (read lent 0x8000) ∙ stays in
+      let y = sym (ap (λ (b : Board). p .reply b (read lent 0x8001)) t) ∙ again board lent lent 0x8000 0x8001 in
+      let z : _≡_ {A = ℕ} 7 0 = cc (first, y, second) in
       omega arith

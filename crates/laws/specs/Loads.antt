@@ -20,6 +20,7 @@ pub data Done : Type 0 where
   nothing : Done
   load : Register → ℕ → Done
 
+-- only MMC1 has a serial register
 unfoldable pub isMmc1 : MapperType → Bool
 isMmc1 Mmc1 = true
 isMmc1 Nrom = false

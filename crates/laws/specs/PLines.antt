@@ -34,9 +34,11 @@ header p c b6 b7 = 0x4E ∷ 0x45 ∷ 0x53 ∷ 0x1A ∷ p ∷ c ∷ b6 ∷ b7 ∷
 abbrev pub image : ℕ → ℕ → ℕ → ℕ → List ℕ
 image size p c b6 = header p c b6 0 ++ replicate (size - 16) 0
 
+-- a lent RAM
 abbrev pub ram : List ℕ
 ram = replicate 8192 0
 
+-- the load of an image, with both RAMs lent
 abbrev pub loadOf : Mode → List ℕ → Loaded
 loadOf mode s = loadedBoard (loadedAs (verdict s mode (length ram) (length ram)) (cartridgeOf (headerOf s) mode (length s)))
 
@@ -46,6 +48,7 @@ pub data Event : Type 0 where
   writes : ℕ → ℕ → Event
   clocks : Event
 
+-- the call that an event is
 abbrev pub call : List ℕ → Event → Call
 call s (reads a) = read (record { image = s; prg = ram; chr = ram }) a
 call s (writes a v) = write (record { image = s; prg = ram; chr = ram }) a v
@@ -56,35 +59,42 @@ pub data Question : Type 0 where
   whenLoaded : Mode → List ℕ → Question
   whenPlayed : Mode → List ℕ → List Event → Question
   loadsOf : Mode → List ℕ → List Event → Question
+  modesAfter : Mode → List ℕ → List Event → Question
   prgAfter : Mode → List ℕ → List Event → Question
 
 -- answers as numbers: a byte, a letter, yes and no as 1 and 0, and a refusal as 1,000 and its number
 abbrev pub refused : ℕ → ℕ
 refused n = 1000 + n
 
+-- of a load, 0 where it is accepted
 abbrev pub loadNumber : LoadAnswer → ℕ
 loadNumber Accepted = 0
 loadNumber (NotLoaded why) = refused (refusalNumber why)
 
+-- of a read
 abbrev pub readNumber : ReadAnswer → ℕ
 readNumber (Byte v) = v
 readNumber (NoByte why) = refused (refusalNumber why)
 
+-- of a write, 0 where it is quiet
 abbrev pub writeNumber : WriteAnswer → ℕ
 writeNumber Quiet = 0
 writeNumber (Notice m) = mirroringLetter m
 writeNumber (NotWritten why) = refused (refusalNumber why)
 
+-- of a clock
 abbrev pub clockNumber : ClockAnswer → ℕ
 clockNumber No = 0
 clockNumber Yes = 1
 clockNumber (NotClocked why) = refused (refusalNumber why)
 
+-- of any call
 abbrev pub answerNumber : Answer → ℕ
 answerNumber (toRead r) = readNumber r
 answerNumber (toWrite r) = writeNumber r
 answerNumber (toClock r) = clockNumber r
 
+-- MMC1's registers in the order of their addresses
 abbrev pub registerNumber : Register → ℕ
 registerNumber Control = 0
 registerNumber Chr0 = 1
@@ -97,16 +107,22 @@ listed [] = []
 listed (nothing ∷ ds) = listed ds
 listed (load w v ∷ ds) = registerNumber w ∷ v ∷ listed ds
 
+-- the answer to a question
 abbrev pub answerTo : Question → List ℕ
 answerTo (whenLoaded mode s) = loadNumber (loadOf mode s .answer) ∷ []
 answerTo (whenPlayed mode s es) = map answerNumber (answers (loadOf mode s .board) (map (call s) es))
 answerTo (loadsOf mode s es) = listed (loads (loadOf mode s .board) (map (call s) es))
+answerTo (modesAfter mode s es) =
+    let r = after (loadOf mode s .board) (map (call s) es) .mmc1 .regs in
+    r .prgmode ∷ r .chrmode ∷ []
 answerTo (prgAfter mode s es) = after (loadOf mode s .board) (map (call s) es) .mmc1 .regs .prg ∷ []
 
+-- a row: what is asked, and what is wanted
 pub record Row : Type 0 where
   pub asked : Question
   pub wanted : List ℕ
 
+-- one of these
 abbrev pub row : Question → List ℕ → Row
 row q w = record { asked = q; wanted = w }
 
@@ -114,15 +130,19 @@ row q w = record { asked = q; wanted = w }
 abbrev pub nrom : List ℕ
 nrom = image 16400 1 0 0x00
 
+-- UxROM, two PRG blocks, the first byte 7
 abbrev pub uxrom : List ℕ
 uxrom = header 2 0 0x20 0 ++ 7 ∷ replicate 32767 0
 
+-- CNROM, one PRG block, the last byte 9
 abbrev pub cnrom : List ℕ
 cnrom = header 1 0 0x30 0 ++ replicate 16383 0 ++ 9 ∷ []
 
+-- MMC1, header vertical
 abbrev pub mmc1 : List ℕ
 mmc1 = image 16400 1 0 0x11
 
+-- MMC3
 abbrev pub mmc3 : List ℕ
 mmc3 = image 16400 1 0 0x40
 
@@ -130,6 +150,11 @@ mmc3 = image 16400 1 0 0x40
 abbrev pub fiveBits : List Event
 fiveBits = writes 0x8000 1 ∷ writes 0x8000 1 ∷ writes 0x8000 0 ∷ writes 0x8000 0 ∷ writes 0x8000 1 ∷ []
 
+-- five ones, which load PRG 15
+abbrev pub fiveOnes : List Event
+fiveOnes = writes 0xE000 1 ∷ writes 0xE000 1 ∷ writes 0xE000 1 ∷ writes 0xE000 1 ∷ writes 0xE000 1 ∷ []
+
+-- of P8: four bits, byte 80, five zeros
 abbrev pub fourAndFive : List Event
 fourAndFive =
     writes 0xE000 1 ∷ writes 0xE000 1 ∷ writes 0xE000 1 ∷ writes 0xE000 1 ∷ writes 0xE000 0x80
@@ -139,12 +164,15 @@ fourAndFive =
 abbrev pub armed : ℕ → List Event → List Event
 armed n es = writes 0xC000 n ∷ writes 0xC001 0 ∷ writes 0xE001 0 ∷ es
 
+-- clocks 1-3
 abbrev pub three : List Event
 three = clocks ∷ clocks ∷ clocks ∷ []
 
+-- clocks 1-7
 abbrev pub seven : List Event
 seven = clocks ∷ clocks ∷ clocks ∷ clocks ∷ clocks ∷ clocks ∷ clocks ∷ []
 
+-- the table
 abbrev pub rows : List Row
 rows =
     -- P1: 16,399 bytes, good magic: 3
@@ -163,9 +191,11 @@ rows =
     -- P7: MMC1 serial bits 1, 1, 0, 0, 1 at 8000, header vertical: control 19, notice horizontal
     ∷ row (loadsOf House mmc1 fiveBits) (0 ∷ 19 ∷ [])
     ∷ row (whenPlayed House mmc1 fiveBits) (0 ∷ 0 ∷ 0 ∷ 0 ∷ 0x48 ∷ [])
+    ∷ row (modesAfter House mmc1 fiveBits) (0 ∷ 1 ∷ [])
     -- P8: MMC1, four bits, byte 80, five zeros, all at E000: one load, PRG 0
     ∷ row (loadsOf House mmc1 fourAndFive) (3 ∷ 0 ∷ [])
-    ∷ row (prgAfter House mmc1 fourAndFive) (0 ∷ [])
+    ∷ row (prgAfter House mmc1 fiveOnes) (15 ∷ [])
+    ∷ row (prgAfter House mmc1 (fiveOnes ++ fourAndFive)) (0 ∷ [])
     -- P9: MMC3 latch 0, clocks 1-3: no yes yes; board: yes yes yes
     ∷ row (whenPlayed House mmc3 (armed 0 three)) (0 ∷ 0 ∷ 0 ∷ 0 ∷ 1 ∷ 1 ∷ [])
     ∷ row (whenPlayed OnBoard mmc3 (armed 0 three)) (0 ∷ 0 ∷ 0 ∷ 1 ∷ 1 ∷ 1 ∷ [])

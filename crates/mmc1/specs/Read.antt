@@ -29,6 +29,7 @@ chrPair Board n = n / 2 * 2
 unfoldable pub lowerPrg : Mode → Regs → ℕ
 lowerPrg mode r = cond (ltb (r .prgmode) 2) (prgPair mode (r .prg)) (cond (eqb (r .prgmode) 2) 0 (r .prg))
 
+-- the second bank of the same sentence
 unfoldable pub upperPrg : Mode → Regs → ℕ → ℕ
 upperPrg mode r last = cond (ltb (r .prgmode) 2) (prgPair mode (r .prg) + 1) (cond (eqb (r .prgmode) 2) (r .prg) last)
 
@@ -44,12 +45,15 @@ upperChr mode r = cond (eqb (r .chrmode) 0) (chrPair mode (r .chr0) + 1) (r .chr
 unfoldable pub lowerPrgPlace : Mmc1 → Cartridge → ℕ → Place
 lowerPrgPlace m c at = prgPlace c KB16 (lowerPrg (c .mode) (m .regs)) at
 
+-- C000-FFFF
 unfoldable pub upperPrgPlace : Mmc1 → Cartridge → ℕ → Place
 upperPrgPlace m c at = prgPlace c KB16 (upperPrg (c .mode) (m .regs) (lastPrg c)) at
 
+-- PPU lower half
 unfoldable pub lowerChrPlace : Mmc1 → Cartridge → ℕ → Place
 lowerChrPlace m c at = chrPlace c KB4 (lowerChr (c .mode) (m .regs)) at
 
+-- PPU upper half
 unfoldable pub upperChrPlace : Mmc1 → Cartridge → ℕ → Place
 upperChrPlace m c at = chrPlace c KB4 (upperChr (c .mode) (m .regs)) at
 
@@ -75,6 +79,7 @@ unfoldable pub writePlaceIn : Mode → Mmc1 → Cartridge → ℕ → Place
 writePlaceIn House m c a = houseWritePlace c a
 writePlaceIn Board m c a = readPlace m c a
 
+-- in the mode that the cartridge has
 abbrev pub writePlace : Mmc1 → Cartridge → ℕ → Place
 writePlace m c a = writePlaceIn (c .mode) m c a
 
@@ -82,11 +87,14 @@ writePlace m c a = writePlaceIn (c .mode) m c a
 unfoldable pub lowerPrgBank : Mmc1 → Cartridge → List ℕ → List ℕ
 lowerPrgBank m c image = bankOf (prgRom image) (bankStart (c .mode) (lowerPrg (c .mode) (m .regs)) KB16 (prgTotal c)) KB16
 
+-- the bank at C000-FFFF
 unfoldable pub upperPrgBank : Mmc1 → Cartridge → List ℕ → List ℕ
 upperPrgBank m c image = bankOf (prgRom image) (bankStart (c .mode) (upperPrg (c .mode) (m .regs) (lastPrg c)) KB16 (prgTotal c)) KB16
 
+-- the bank of the PPU lower half
 unfoldable pub lowerChrBank : Mmc1 → Cartridge → List ℕ → List ℕ → List ℕ
 lowerChrBank m c image ram = bankOf (chrData c image ram) (bankStart (c .mode) (lowerChr (c .mode) (m .regs)) KB4 (chrTotal c)) KB4
 
+-- the bank of the PPU upper half
 unfoldable pub upperChrBank : Mmc1 → Cartridge → List ℕ → List ℕ → List ℕ
 upperChrBank m c image ram = bankOf (chrData c image ram) (bankStart (c .mode) (upperChr (c .mode) (m .regs)) KB4 (chrTotal c)) KB4

@@ -46,9 +46,11 @@ mirrorsOf Prg v = AsBefore
 abbrev pub controlled : Regs → ℕ → Regs
 controlled r v = record { prgmode = v / 4 % 4; chrmode = v / 16 % 2; chr0 = r .chr0; chr1 = r .chr1; prg = r .prg }
 
+-- another CHR 0
 abbrev pub withChr0 : Regs → ℕ → Regs
 withChr0 r v = record { prgmode = r .prgmode; chrmode = r .chrmode; chr0 = v; chr1 = r .chr1; prg = r .prg }
 
+-- another CHR 1
 abbrev pub withChr1 : Regs → ℕ → Regs
 withChr1 r v = record { prgmode = r .prgmode; chrmode = r .chrmode; chr0 = r .chr0; chr1 = v; prg = r .prg }
 
@@ -64,6 +66,7 @@ houseChr0 r v = cond (eqb (r .chrmode) 0) (withChr0 r (v / 2)) (withChr0 r v)
 unfoldable pub houseChr1 : Regs → ℕ → Regs
 houseChr1 r v = cond (eqb (r .chrmode) 0) r (withChr1 r v)
 
+-- a completed load, house mode
 unfoldable pub houseLoad : Regs → Register → ℕ → Regs
 houseLoad r Control v = controlled r v
 houseLoad r Chr0 v = houseChr0 r v
@@ -77,6 +80,7 @@ boardLoad r Chr0 v = withChr0 r v
 boardLoad r Chr1 v = withChr1 r v
 boardLoad r Prg v = withPrg r v
 
+-- a completed load in each mode
 unfoldable pub load : Mode → Regs → Register → ℕ → Regs
 load House r w v = houseLoad r w v
 load Board r w v = boardLoad r w v
@@ -90,12 +94,15 @@ reset Board r = record { prgmode = 3; chrmode = r .chrmode; chr0 = r .chr0; chr1
 unfoldable pub kept : Mmc1 → Wrote
 kept m = record { mmc1 = m; mirrors = AsBefore }
 
+-- a write with bit 7
 unfoldable pub resetAll : Mode → Mmc1 → Wrote
 resetAll mode m = kept (record { serial = empty; regs = reset mode (m .regs) })
 
+-- a bit that enters and completes nothing
 unfoldable pub entered : Mmc1 → ℕ → ℕ → Wrote
 entered m count v = kept (record { serial = record { count = count; value = v }; regs = m .regs })
 
+-- the fifth bit: the register is loaded and the serial register cleared
 unfoldable pub completed : Mode → Mmc1 → Register → ℕ → Wrote
 completed mode m w v = record { mmc1 = record { serial = empty; regs = load mode (m .regs) w v }; mirrors = mirrorsOf w v }
 
@@ -110,5 +117,6 @@ shiftedIn mode m v a =
 unfoldable pub serialWrite : Mode → Mmc1 → ℕ → ℕ → Wrote
 serialWrite mode m v a = cond (isSigned v) (resetAll mode m) (shiftedIn mode m v a)
 
+-- below 8000 a write moves no register
 unfoldable pub written : Mode → Mmc1 → ℕ → ℕ → Wrote
 written mode m v a = cond (ltb a 0x8000) (kept m) (serialWrite mode m v a)

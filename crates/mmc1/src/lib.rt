@@ -143,28 +143,25 @@ impl Regs {
         }
     }
 
-    fn with_chr0(self, bank: u8) -> Regs
+    fn with_chr0(mut self, bank: u8) -> Regs
         ensures { λ r. ⌜ r ≡ withChr0 self bank ⌝ }
     {
-        let mut next = self;
-        next.chr0 = bank;
-        next
+        self.chr0 = bank;
+        self
     }
 
-    fn with_chr1(self, bank: u8) -> Regs
+    fn with_chr1(mut self, bank: u8) -> Regs
         ensures { λ r. ⌜ r ≡ withChr1 self bank ⌝ }
     {
-        let mut next = self;
-        next.chr1 = bank;
-        next
+        self.chr1 = bank;
+        self
     }
 
-    fn with_prg(self, bits: u8) -> Regs
+    fn with_prg(mut self, bits: u8) -> Regs
         ensures { λ r. ⌜ r ≡ withPrg self bits ⌝ }
     {
-        let mut next = self;
-        next.prg = bits % 16;
-        next
+        self.prg = bits % 16;
+        self
     }
 
     // House mode: stored halved in 8 KB mode.

@@ -28,6 +28,7 @@ nextCounter i = cond (i .reload) (i .latch) (cond (eqb (i .counter) 0) (i .latch
 unfoldable pub boardClock : Irq → Clocked
 boardClock i = at i (nextCounter i) (i .enabled && eqb (nextCounter i) 0)
 
+-- the clock of each mode
 unfoldable pub clockIn : Mode → Irq → Clocked
 clockIn House i = houseClock i
 clockIn Board i = boardClock i

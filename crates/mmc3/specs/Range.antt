@@ -18,6 +18,7 @@ start =
       irq = record { enabled = false; latch = 0; counter = 0; reload = false };
     }
 
+-- the unit at its start
 unfoldable pub irqIsStart : Irq → Bool
 irqIsStart i = not (i .enabled) && eqb (i .latch) 0 && eqb (i .counter) 0 && not (i .reload)
 

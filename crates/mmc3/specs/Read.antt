@@ -19,6 +19,7 @@ use Rattle.mmc3.specs.declared.Mmc3.{Mmc3}
 abbrev pub R : ℕ → ℕ
 R n = n * 2
 
+-- and the bank after it
 abbrev pub R+1 : ℕ → ℕ
 R+1 n = n * 2 + 1
 
@@ -29,6 +30,7 @@ choices =
     ∷ (R 2 ∷ R 3 ∷ R 4 ∷ R 5 ∷ R 0 ∷ R+1 0 ∷ R 1 ∷ R+1 1 ∷ [])
     ∷ []
 
+-- the entry of a CHR mode and a 1 KB slot
 unfoldable pub choice : ℕ → ℕ → ℕ
 choice mode slot = getD (getD choices mode []) slot 0
 
@@ -44,6 +46,7 @@ chrBank m slot = register m (choice (m .chrmode) slot / 2) + choice (m .chrmode)
 unfoldable pub lastBank : Cartridge → ℕ
 lastBank c = c .prg * 2 - 1
 
+-- the last but one
 unfoldable pub lastButOne : Cartridge → ℕ
 lastButOne c = c .prg * 2 - 2
 
@@ -55,9 +58,11 @@ prgBank m c a =
     (cond (ltb a 0xE000) (cond (eqb (m .prgmode) 0) (lastButOne c) (register m 6))
     (lastBank c)))
 
+-- the byte of the slot that an address names
 unfoldable pub chrAt : Mmc3 → Cartridge → ℕ → Place
 chrAt m c a = chrPlace c KB1 (chrBank m (a / 1024)) (a % 1024)
 
+-- the byte of the 8 KB window that an address names
 unfoldable pub prgAt : Mmc3 → Cartridge → ℕ → Place
 prgAt m c a = prgPlace c KB8 (prgBank m c a) (a % 8192)
 
@@ -85,5 +90,6 @@ unfoldable pub writePlaceIn : Mode → Mmc3 → Cartridge → ℕ → Place
 writePlaceIn House m c a = houseWritePlace m a
 writePlaceIn Board m c a = readPlace m c a
 
+-- in the mode that the cartridge has
 abbrev pub writePlace : Mmc3 → Cartridge → ℕ → Place
 writePlace m c a = writePlaceIn (c .mode) m c a

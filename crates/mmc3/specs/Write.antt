@@ -42,6 +42,7 @@ screens v = cond (eqb (v % 2) 1) Horizontal Vertical
 unfoldable pub latched : Mmc3 → ℕ → Mmc3
 latched m v = withIrq m (record { enabled = m .irq .enabled; latch = v; counter = m .irq .counter; reload = m .irq .reload })
 
+-- the reload mark
 unfoldable pub marked : Mmc3 → Mmc3
 marked m = withIrq m (record { enabled = m .irq .enabled; latch = m .irq .latch; counter = m .irq .counter; reload = true })
 
@@ -67,5 +68,6 @@ writtenOdd m v a =
     (cond (ltb a 0xE000) (kept (marked m))
     (kept (switched m true)))))
 
+-- by the parity of the address
 unfoldable pub written : Mmc3 → ℕ → ℕ → Wrote
 written m v a = cond (eqb (a % 2) 0) (writtenEven m v a) (writtenOdd m v a)

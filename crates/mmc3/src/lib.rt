@@ -329,14 +329,13 @@ impl Mmc3 {
         }
     }
 
-    fn bank_select(self, value: u8) -> Mmc3
+    fn bank_select(mut self, value: u8) -> Mmc3
         ensures { λ r. ⌜ r ≡ selected self value ⌝ }
     {
-        let mut next = self;
-        next.select = value % 8;
-        next.prgmode = value / 64 % 2;
-        next.chrmode = value / 128 % 2;
-        next
+        self.select = value % 8;
+        self.prgmode = value / 64 % 2;
+        self.chrmode = value / 128 % 2;
+        self
     }
 
     fn bank_data(self, value: u8) -> Mmc3
@@ -351,12 +350,11 @@ impl Mmc3 {
         next
     }
 
-    fn with_irq(self, irq: Irq) -> Mmc3
+    fn with_irq(mut self, irq: Irq) -> Mmc3
         ensures { λ r. ⌜ r ≡ withIrq self irq ⌝ }
     {
-        let mut next = self;
-        next.irq = irq;
-        next
+        self.irq = irq;
+        self
     }
 
     fn latch(self, value: u8) -> Mmc3

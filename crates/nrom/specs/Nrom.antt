@@ -34,5 +34,6 @@ unfoldable pub writePlaceIn : Mode → Cartridge → ℕ → Place
 writePlaceIn House c a = houseWritePlace c a
 writePlaceIn Board c a = readPlace c a
 
+-- in the mode that the cartridge has
 abbrev pub writePlace : Cartridge → ℕ → Place
 writePlace c a = writePlaceIn (c .mode) c a

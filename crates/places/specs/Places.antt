@@ -22,6 +22,7 @@ unfoldable pub prgAt : Start → ℕ → Place
 prgAt (At s) at = Prg (s + at)
 prgAt PastEnd at = Refused BankPastData
 
+-- the same for CHR, in RAM or in the image
 unfoldable pub chrAt : Bool → Start → ℕ → Place
 chrAt ram (At s) at = cond ram (ChrRam (s + at)) (Chr (s + at))
 chrAt ram PastEnd at = Refused BankPastData

@@ -30,6 +30,7 @@ unfoldable pub writePlaceIn : Mode → Uxrom → Cartridge → ℕ → Place
 writePlaceIn House u c a = houseWritePlace c a
 writePlaceIn Board u c a = readPlace u c a
 
+-- in the mode that the cartridge has
 abbrev pub writePlace : Uxrom → Cartridge → ℕ → Place
 writePlace u c a = writePlaceIn (c .mode) u c a
 

@@ -44,11 +44,14 @@ impl Uxrom {
     }
 
     // The bank is the whole byte.
-    pub fn write8(self, value: u8, address: u16) -> Self
+    pub fn write8(mut self, value: u8, address: u16) -> Self
         ensures { λ r. ⌜ r ≡ written self value address ⌝ }
     {
         match address {
-            0x8000..=0xffff => Uxrom { bank: value },
+            0x8000..=0xffff => {
+                self.bank = value;
+                self
+            }
             _ => self,
         }
     }

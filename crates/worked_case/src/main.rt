@@ -2,7 +2,10 @@
 ghost use Prim.Native.Nat.{_<_};
 use boards::Board;
 use boards::ClockAnswer;
+use boards::LoadAnswer;
+use boards::Loaded;
 use boards::WriteAnswer;
+use cartridge::Cartridge;
 use common::Mode;
 use places::ReadAnswer;
 
@@ -127,6 +130,36 @@ fn print_clock(answer: ClockAnswer) {
     }
 }
 
+// The line of an accepted load: mapper, mirroring, PRG count, CHR count.
+fn print_cartridge(cart: Cartridge) {
+    let mapper = cart.mapper;
+    let mirroring = cart.mirroring;
+    let letter = [mirroring.letter()];
+    print(b"load ");
+    print_number(mapper.number() as u64);
+    print(b" ");
+    print(&letter);
+    print(b" ");
+    print_number(cart.prg as u64);
+    print(b" ");
+    print_number(cart.chr as u64);
+    end_line();
+}
+
+fn print_load(loaded: Loaded) {
+    let answer = loaded.answer;
+    let board = loaded.board;
+    let cart = board.cart;
+    match answer {
+        LoadAnswer::Accepted => print_cartridge(cart),
+        LoadAnswer::Refused(why) => {
+            print(b"refused ");
+            print_number(why.number() as u64);
+            end_line();
+        }
+    }
+}
+
 fn address_of(high: u8, low: u8) -> u16 {
     (high as u16) * 256 + (low as u16)
 }
@@ -194,6 +227,7 @@ fn main() {
     let mut chr = [0u8; 8192];
     fill(&mut image);
     let loaded = boards::load(&image, Mode::House, &mut prg, &mut chr);
+    print_load(loaded);
     let board = loaded.board;
     play_all(board, &image, &mut prg, &mut chr);
 }

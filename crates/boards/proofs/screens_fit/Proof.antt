@@ -10,4 +10,10 @@ screens-fit-spec =
     tie.close
     (tie.spec
     (λ c. search picks) (λ c. search picks) (λ c. search picks) (λ c. search picks) (λ c. search picks)
-    (λ c. search picks) (λ c. search picks) (λ c. cc) (λ c. cc) (λ c. cc) (λ c. cc) (λ c. cc) (λ c. cc))
+    (λ c. search picks) (λ c. search picks)
+    (λ c. simp (c .enum-told .given .1))
+    (λ c. simp (c .enum-told3 .given .1, c .before .before .enum-told2 .given .1))
+    (λ c. simp (c .enum-told4 .given .1, c .before .before .enum-told2 .given .1))
+    (λ c. simp (c .enum-told5 .given .1, c .before .before .enum-told2 .given .1))
+    (λ c. simp (c .enum-told6 .given .1, c .before .before .enum-told2 .given .1))
+    (λ c. simp (c .enum-told7 .given .1, c .before .before .enum-told2 .given .1)))

@@ -9,4 +9,6 @@ unfolding ramAfter
 clear-if-taken-spec =
     tie.close
     (tie.spec
-    (λ c. search picks) (λ c κs. search picks) (λ c. search picks) (λ c. search picks) (λ c. cc) (λ c. cc))
+    (λ c. search picks) (λ c κs. search picks) (λ c. search picks) (λ c. search picks)
+    (λ c. simp (c .before .before .clear .ensures, c .before .before .before .before .enum-told .given .1))
+    (λ c. simp (c .enum-told2 .given .1)))

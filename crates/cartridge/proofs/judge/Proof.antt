@@ -6,4 +6,8 @@ use Rattle.cartridge.proofs.judge.Tie as tie
 
 pub judge-spec : {M : Type 1} → statement M
 unfolding verdict
-judge-spec = tie.close (tie.spec (λ c κs. search picks) (λ c κs. search picks) (λ c κs. search picks) (λ c. cc))
+judge-spec =
+    tie.close
+    (tie.spec
+    (λ c κs. search picks) (λ c κs. search picks) (λ c κs. search picks)
+    (λ c. simp (c .verdict-on .ensures, c .before .is-ines .ensures, c .before .before .read-header .ensures)))

@@ -10,4 +10,5 @@ verdict-on-spec =
     tie.close
     (tie.spec
     (λ c κs. search picks) (λ c. search picks) (λ c. search picks) (λ c κs. search picks) (λ c. search picks)
-    (λ c κs. search picks) (λ c κs. search picks) (λ c κs. search picks) (λ c κs. search picks) (λ c. cc))
+    (λ c κs. search picks) (λ c κs. search picks) (λ c κs. search picks) (λ c κs. search picks)
+    (λ c. simp (c .first-of .ensures, c .before .bad-prg .ensures, c .before .before .is-special .ensures, c .before .before .before .odd-counts .ensures, c .before .before .before .before .needed .ensures, c .before .before .before .before .before .before .before .mapper .ensures)))

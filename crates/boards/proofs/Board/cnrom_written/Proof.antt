@@ -6,4 +6,8 @@ use Rattle.boards.proofs.Board.cnrom_written.Tie as tie
 
 pub cnrom-written-spec : {M : Type 1} → statement M
 unfolding cnromWritten
-cnrom-written-spec = tie.close (tie.spec (λ c κs. search picks) (λ c κs. search picks) (λ c. cc))
+cnrom-written-spec =
+    tie.close
+    (tie.spec
+    (λ c κs. search picks) (λ c κs. search picks)
+    (λ c. simp (c .quiet .ensures, c .before .write8 .ensures)))

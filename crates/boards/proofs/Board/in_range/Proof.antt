@@ -6,4 +6,8 @@ use Rattle.boards.proofs.Board.in_range.Tie as tie
 
 pub in-range-spec : {M : Type 1} → statement M
 unfolding inRange
-in-range-spec = tie.close (tie.spec (λ c κs. search picks) (λ c κs. search picks) (λ c κs. search picks) (λ c. cc))
+in-range-spec =
+    tie.close
+    (tie.spec
+    (λ c κs. search picks) (λ c κs. search picks) (λ c κs. search picks)
+    (λ c. simp (c .mirroring-fits .ensures, c .before .registers-fit .ensures, c .before .before .could-load .ensures)))

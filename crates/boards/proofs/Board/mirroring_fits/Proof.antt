@@ -6,4 +6,8 @@ use Rattle.boards.proofs.Board.mirroring_fits.Tie as tie
 
 pub mirroring-fits-spec : {M : Type 1} → statement M
 unfolding mirroringFits
-mirroring-fits-spec = tie.close (tie.spec (λ c κs. search picks) (λ c κs. search picks) (λ c κs. search picks) (λ c. cc))
+mirroring-fits-spec =
+    tie.close
+    (tie.spec
+    (λ c κs. search picks) (λ c κs. search picks) (λ c κs. search picks)
+    (λ c. simp (c .screens-fit .ensures, c .before .is-headers .ensures, c .before .before .same .ensures)))

@@ -6,4 +6,8 @@ use Rattle.boards.proofs.Board.mmc1_written.Tie as tie
 
 pub mmc1-written-spec : {M : Type 1} → statement M
 unfolding mmc1Written
-mmc1-written-spec = tie.close (tie.spec (λ c κs. search picks) (λ c κs. search picks) (λ c. cc))
+mmc1-written-spec =
+    tie.close
+    (tie.spec
+    (λ c κs. search picks) (λ c κs. search picks)
+    (λ c. simp (c .turned .ensures, c .before .before .write8 .ensures)))

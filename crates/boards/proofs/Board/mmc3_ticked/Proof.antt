@@ -6,4 +6,8 @@ use Rattle.boards.proofs.Board.mmc3_ticked.Tie as tie
 
 pub mmc3-ticked-spec : {M : Type 1} → statement M
 unfolding mmc3Ticked
-mmc3-ticked-spec = tie.close (tie.spec (λ c κs. search picks) (λ c κs. search picks) (λ c. cc))
+mmc3-ticked-spec =
+    tie.close
+    (tie.spec
+    (λ c κs. search picks) (λ c κs. search picks)
+    (λ c. simp (c .yes-no .ensures, c .before .before .clock .ensures)))

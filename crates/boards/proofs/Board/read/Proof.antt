@@ -10,4 +10,5 @@ read-spec =
     tie.close
     (tie.spec
     (λ c κs. search picks) (λ c κs. search picks) (λ c κs. search picks) (λ c κs. search picks) (λ c κs. search picks)
-    (λ c κs. search picks) (λ c. cc))
+    (λ c κs. search picks)
+    (λ c. simp (c .answer-at .ensures, c .before .guarded .ensures, c .before .before .rams-fit .ensures, c .before .before .before .is-loaded .ensures, c .before .before .before .before .byte .ensures, c .before .before .before .before .before .read-place .ensures)))

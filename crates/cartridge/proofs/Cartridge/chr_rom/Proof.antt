@@ -9,4 +9,5 @@ unfolding chrRom
 chr-rom-spec =
     tie.close
     (tie.spec
-    (λ c κs. search picks) (λ c. search picks) (λ c. search picks) (λ c κs. search picks) (λ c. cc))
+    (λ c κs. search picks) (λ c. search picks) (λ c. search picks) (λ c κs. search picks)
+    (λ c. simp (c .tail-of .ensures, c .before .prg-total .ensures)))

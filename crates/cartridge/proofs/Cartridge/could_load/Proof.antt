@@ -10,4 +10,5 @@ could-load-spec =
     tie.close
     (tie.spec
     (λ c κs. search picks) (λ c κs. search picks) (λ c κs. search picks) (λ c κs. search picks) (λ c. search picks)
-    (λ c κs. search picks) (λ c. cc))
+    (λ c κs. search picks)
+    (λ c. simp (c .is-headers .ensures, c .before .before .needed .ensures, c .before .before .before .before .before .odd-counts .ensures, c .before .before .before .before .before .before .bad-prg .ensures, c .before .before .before .before .before .before .before .number .ensures)))

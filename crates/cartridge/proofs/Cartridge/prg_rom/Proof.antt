@@ -6,4 +6,4 @@ use Rattle.cartridge.proofs.Cartridge.prg_rom.Tie as tie
 
 pub prg-rom-spec : {M : Type 1} → statement M
 unfolding prgRom
-prg-rom-spec = tie.close (tie.spec (λ c. search picks) (λ c κs. search picks) (λ c. cc))
+prg-rom-spec = tie.close (tie.spec (λ c. search picks) (λ c κs. search picks) (λ c. simp (c .tail-of .ensures)))

@@ -6,4 +6,8 @@ use Rattle.cartridge.proofs.Header.parse.Tie as tie
 
 pub parse-spec : {M : Type 1} → statement M
 unfolding headerRead
-parse-spec = tie.close (tie.spec (λ c κs. search picks) (λ c κs. search picks) (λ c κs. search picks) (λ c. cc))
+parse-spec =
+    tie.close
+    (tie.spec
+    (λ c κs. search picks) (λ c κs. search picks) (λ c κs. search picks)
+    (λ c. simp (c .header-answer .ensures, c .before .read-header .ensures, c .before .before .is-ines .ensures)))

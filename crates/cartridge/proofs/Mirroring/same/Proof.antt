@@ -6,4 +6,8 @@ use Rattle.cartridge.proofs.Mirroring.same.Tie as tie
 
 pub same-spec : {M : Type 1} → statement M
 unfolding same
-same-spec = tie.close (tie.spec (λ c κs. search picks) (λ c κs. search picks) (λ c. cc))
+same-spec =
+    tie.close
+    (tie.spec
+    (λ c κs. search picks) (λ c κs. search picks)
+    (λ c. simp (c .letter2 .ensures, c .before .letter .ensures)))

@@ -6,4 +6,8 @@ use Rattle.mmc3.proofs.Irq.board_clock.Tie as tie
 
 pub board-clock-spec : {M : Type 1} → statement M
 unfolding boardClock
-board-clock-spec = tie.close (tie.spec (λ c κs. search picks) (λ c κs. search picks) (λ c. cc))
+board-clock-spec =
+    tie.close
+    (tie.spec
+    (λ c κs. search picks) (λ c κs. search picks)
+    (λ c. simp (c .set-to .ensures, c .before .before .next-counter .ensures)))

@@ -9,4 +9,6 @@ unfolding clockIn
 clock-spec =
     tie.close
     (tie.spec
-    (λ c. search picks) (λ c κs. search picks) (λ c. search picks) (λ c κs. search picks) (λ c. cc) (λ c. cc))
+    (λ c. search picks) (λ c κs. search picks) (λ c. search picks) (λ c κs. search picks)
+    (λ c. simp (c .house-clock .ensures, c .before .enum-told .given .1))
+    (λ c. simp (c .board-clock .ensures, c .before .enum-told2 .given .1)))

@@ -14,5 +14,6 @@ unfolding stored
 bank-data-spec =
     tie.close
     (tie.spec
-    (λ c κs. search picks) (λ c. search picks) (λ c. search picks) (λ c. cc)
+    (λ c κs. search picks) (λ c. search picks) (λ c. search picks)
+    (λ c. simp (c .before .before .kept-bits .ensures))
     (λ c. let m = c .before .before .before .args .self in let e : length (m .regs) ≡ 8 = search needs in rw (set-out (m .regs) (m .select) (keptBits (m .select) (c .before .before .before .args .value)) (omega arith)) refl))

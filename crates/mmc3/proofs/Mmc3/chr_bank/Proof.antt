@@ -9,4 +9,5 @@ unfolding chrBank
 chr-bank-spec =
     tie.close
     (tie.spec
-    (λ c κs. search picks) (λ c κs. search picks) (λ c. search picks) (λ c. search picks) (λ c. search picks) (λ c. cc))
+    (λ c κs. search picks) (λ c κs. search picks) (λ c. search picks) (λ c. search picks) (λ c. search picks)
+    (λ c. simp (c .register .ensures, c .before .choice .ensures)))

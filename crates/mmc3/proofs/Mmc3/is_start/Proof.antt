@@ -11,4 +11,5 @@ is-start-spec =
     tie.close
     (tie.spec
     (λ c. search picks) (λ c. search picks) (λ c. search picks) (λ c. search picks) (λ c. search picks)
-    (λ c. search picks) (λ c. search picks) (λ c. search picks) (λ c κs. search picks) (λ c. cc))
+    (λ c. search picks) (λ c. search picks) (λ c. search picks) (λ c κs. search picks)
+    (λ c. simp (c .is-start .ensures)))

@@ -6,4 +6,4 @@ use Rattle.mmc3.proofs.Mmc3.latch.Tie as tie
 
 pub latch-spec : {M : Type 1} → statement M
 unfolding latched
-latch-spec = tie.close (tie.spec (λ c κs. search picks) (λ c. cc))
+latch-spec = tie.close (tie.spec (λ c κs. search picks) (λ c. simp (c .with-irq .ensures)))

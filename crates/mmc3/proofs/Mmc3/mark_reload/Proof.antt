@@ -6,4 +6,4 @@ use Rattle.mmc3.proofs.Mmc3.mark_reload.Tie as tie
 
 pub mark-reload-spec : {M : Type 1} → statement M
 unfolding marked
-mark-reload-spec = tie.close (tie.spec (λ c κs. search picks) (λ c. cc))
+mark-reload-spec = tie.close (tie.spec (λ c κs. search picks) (λ c. simp (c .with-irq .ensures)))

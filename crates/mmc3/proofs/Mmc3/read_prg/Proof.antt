@@ -6,4 +6,8 @@ use Rattle.mmc3.proofs.Mmc3.read_prg.Tie as tie
 
 pub read-prg-spec : {M : Type 1} → statement M
 unfolding prgAt
-read-prg-spec = tie.close (tie.spec (λ c κs. search picks) (λ c κs. search picks) (λ c. cc))
+read-prg-spec =
+    tie.close
+    (tie.spec
+    (λ c κs. search picks) (λ c κs. search picks)
+    (λ c. simp (c .prg-place-8k .ensures, c .before .prg-bank .ensures)))
