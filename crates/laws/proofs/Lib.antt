@@ -5,6 +5,7 @@ mod Mmc1Ranges
 mod Mmc3Ranges
 pub mod PLines
 pub mod Clocks
+pub mod PublicClocks
 pub mod Unique
 pub mod Ranges
 pub mod Within
