@@ -36,13 +36,13 @@ use Rattle.laws.proofs.Clocks.{house-clocks, board-clocks}
 plays-on : {mode : Mode} {b : Board} {l : Lent} → Plays mode b l → (c : Call) → Plays mode (next b c) l
 plays-on {mode} {b} {l} p c =
     let k = next-keeps-cart b c in
-    record
-    { in-mode = ap (λ (t : Cartridge). t .mode) k ∙ p .in-mode
-    ; is-mmc3 = ap (λ (t : Cartridge). t .mapper) k ∙ p .is-mmc3
-    ; in-range = next-in-range b c (p .in-range)
-    ; image = p .image ∙ sym (ap (λ (t : Cartridge). t .length) k)
-    ; prg = p .prg
-    ; chr = p .chr
+    record {
+      in-mode = ap (λ (t : Cartridge). t .mode) k ∙ p .in-mode;
+      is-mmc3 = ap (λ (t : Cartridge). t .mapper) k ∙ p .is-mmc3;
+      in-range = next-in-range b c (p .in-range);
+      image = p .image ∙ sym (ap (λ (t : Cartridge). t .length) k);
+      prg = p .prg;
+      chr = p .chr;
     }
 
 -- neither 9 nor 10
