@@ -11,3 +11,4 @@ pub mod Ranges
 pub mod Within
 pub mod Useless
 pub mod Choices
+pub mod SettlesMmc3

@@ -61,7 +61,7 @@ lands (PrgRam i) b v a f = refl
 lands (ChrRam i) b v a f = refl
 lands Zero b v a f = refl
 
-moved-mmc3 : (b : Board) (k : MapperType) → b .cart .mapper ≡ k → k ≡ Mmc3 → (v a : ℕ) → moved b v a .board .mmc3 ≡ mmc3-write.written (b .mmc3) v a .mmc3
+pub moved-mmc3 : (b : Board) (k : MapperType) → b .cart .mapper ≡ k → k ≡ Mmc3 → (v a : ℕ) → moved b v a .board .mmc3 ≡ mmc3-write.written (b .mmc3) v a .mmc3
 unfolding moved movedOn mmc3Written turned
 moved-mmc3 b k e f v a = subst⁻¹ (λ (x : MapperType). movedOn x b v a .board .mmc3 ≡ mmc3-write.written (b .mmc3) v a .mmc3) (e ∙ f) refl
 

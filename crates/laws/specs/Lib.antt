@@ -4,3 +4,4 @@ pub mod Clocks
 pub mod Within
 pub mod Useless
 pub mod Choices
+pub mod SettlesMmc3

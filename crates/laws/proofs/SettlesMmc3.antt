@@ -1,0 +1,383 @@
+-- The interrupt unit moves by itself: what a call makes of it, and whether a write is refused, depends on the unit and not on the banks.
+-- Latch, reload, enable and clock leave one unit whatever it was, so from there on two boards have the same one. Assumes nothing.
+use Prim.Native.Nat.{ℕ, _-_, _%_, _≤_, _<_}
+use mathlib.Core.Path.{_≡_, refl, sym, ap, _∙_, subst, subst⁻¹}
+use mathlib.Core.Bool.{Bool, true, false, cond, not, _&&_}
+use mathlib.Core.List.{List, [], _∷_}
+use native.Mathlib.Omega.{arith}
+use lib.Dec.{ltb, eqb}
+use lib.ListN.{length}
+use borrow.Author.Tests.{ltb-true, ltb-false, not-true, le-ltb}
+use Rattle.rules.proofs.Bools.{and-left, and-right, split-3}
+use Rattle.common.specs.declared.Mode.{Mode}
+use Rattle.common.specs.declared.Mode.the-variants.{House, Board as OnBoard}
+use Rattle.cartridge.specs.declared.Cartridge.{Cartridge}
+use Rattle.cartridge.specs.declared.Refusal.the-variants.{IrqPending, RamNot8K, StateOutOfRange}
+use Rattle.cartridge.specs.declared.MapperType.{MapperType}
+use Rattle.cartridge.specs.declared.MapperType.the-variants.{Mmc3}
+use Rattle.places.specs.declared.Place.{Place}
+use Rattle.places.specs.declared.Place.the-variants.{Prg, Chr, PrgRam, ChrRam, Zero, Refused}
+use Rattle.mmc3.specs.Clock as mmc3-clock
+use Rattle.mmc3.specs.Read as mmc3
+use Rattle.mmc3.specs.Write as mmc3-write
+use Rattle.mmc3.specs.declared.Irq.{Irq}
+use Rattle.mmc3.specs.declared.Clocked.{Clocked}
+use Rattle.mmc3.specs.declared.Mmc3 as mmc3-type
+use Rattle.mmc3.specs.declared.Wrote.{Wrote}
+use Rattle.boards.specs.Range.{inRange, isLoaded, ramsFit, guarded}
+use Rattle.boards.specs.Write.{writePlaceOn, writePlace, withMmc3, moved, writtenAs, landing}
+use Rattle.boards.specs.Clock.{yesNo, mmc3Ticked, tickedOn, ticked, clock, unmoved}
+use Rattle.boards.specs.Runs.{Lent, Call, next}
+use Rattle.boards.specs.Runs.Call.{read, write, clock as tick}
+use Rattle.boards.specs.declared.Board.{Board}
+use Rattle.boards.specs.declared.ClockAnswer.{ClockAnswer}
+use Rattle.laws.specs.Loads.{isAccepted}
+use Rattle.laws.specs.Within.{Found}
+use Rattle.laws.specs.SettlesMmc3.{OneImage, isLatch, isReload, isEnable, accepts, irqAnswers, Arming, latched, reloaded, armed, Accepts}
+use Rattle.laws.specs.PLines.{mmc3 as mmc3-image, ram, loadOf}
+use Rattle.laws.proofs.Opened.{opened}
+use Rattle.laws.proofs.Ranges.{next-in-range, next-keeps-cart}
+use Rattle.laws.proofs.Within.{board-writes}
+use Rattle.laws.proofs.PublicClocks.{moved-mmc3}
+
+-- two choices by one test, arm by arm
+alike : {A : Type 0} (R : A → A → Type 0) (t : Bool) {x y x′ y′ : A} → R x x′ → R y y′ → R (cond t x y) (cond t x′ y′)
+alike R true p q = p
+alike R false p q = q
+
+abbrev SameIrq : Wrote → Wrote → Type 0
+SameIrq w u = w .mmc3 .irq ≡ u .mmc3 .irq
+
+-- a write to boards with one unit leaves one unit
+written-irq : (m n : mmc3-type.Mmc3) (v a : ℕ) → m .irq ≡ n .irq → SameIrq (mmc3-write.written m v a) (mmc3-write.written n v a)
+unfolding mmc3-write.written mmc3-write.writtenEven mmc3-write.writtenOdd mmc3-write.kept mmc3-write.selected mmc3-write.stored mmc3-write.latched mmc3-write.marked mmc3-write.switched mmc3-clock.withIrq
+written-irq m n v a e =
+    alike SameIrq (eqb (a % 2) 0)
+    (alike SameIrq (ltb a 0x8000) e
+    (alike SameIrq (ltb a 0xA000) e
+    (alike SameIrq (ltb a 0xC000) e
+    (alike SameIrq (ltb a 0xE000) (λ i. record { enabled = e i .enabled; latch = v; counter = e i .counter; reload = e i .reload })
+    (λ i. record { enabled = false; latch = e i .latch; counter = e i .counter; reload = e i .reload })))))
+    (alike SameIrq (ltb a 0x8000) e
+    (alike SameIrq (ltb a 0xA000) e
+    (alike SameIrq (ltb a 0xC000) e
+    (alike SameIrq (ltb a 0xE000) (λ i. record { enabled = e i .enabled; latch = e i .latch; counter = e i .counter; reload = true })
+    (λ i. record { enabled = true; latch = e i .latch; counter = e i .counter; reload = e i .reload })))))
+
+-- where a house write lands is the unit's matter too
+house-place : (m n : mmc3-type.Mmc3) (a : ℕ) → m .irq ≡ n .irq → mmc3.houseWritePlace m a ≡ mmc3.houseWritePlace n a
+unfolding mmc3.houseWritePlace mmc3.acknowledged
+house-place m n a e =
+    ap
+    (λ (i : Irq). cond (ltb a 0x6000) Zero (cond (ltb a 0x8000) (PrgRam (a - 0x6000)) (cond (ltb a 0xE000) Zero (cond (mmc3-clock.isPending i && eqb (a % 2) 0) (Refused IrqPending) Zero))))
+    e
+
+found-accepted : (p : Place) → Found p → isAccepted p ≡ true
+unfolding isAccepted
+found-accepted (Refused why) f = absurd f
+found-accepted (Prg i) f = refl
+found-accepted (Chr i) f = refl
+found-accepted (PrgRam i) f = refl
+found-accepted (ChrRam i) f = refl
+found-accepted Zero f = refl
+
+cons-alike : {A : Type 0} {x y : A} {xs ys : List A} → x ≡ y → xs ≡ ys → x ∷ xs ≡ y ∷ ys
+cons-alike p q = λ i. p i ∷ q i
+
+-- what the two boards have in common
+record Alike (b d : Board) : Type 0 where
+  cart : b .cart ≡ d .cart
+  is-mmc3 : b .cart .mapper ≡ Mmc3
+  first : inRange b ≡ true
+  second : inRange d ≡ true
+  irq : b .mmc3 .irq ≡ d .mmc3 .irq
+
+swapped : {b d : Board} → Alike b d → Alike d b
+swapped r =
+    record { cart = sym (r .cart); is-mmc3 = ap (λ (c : Cartridge). c .mapper) (sym (r .cart)) ∙ r .is-mmc3; first = r .second; second = r .first; irq = sym (r .irq) }
+
+-- a write is refused on both boards or on neither
+module _ {b d : Board} (r : Alike b d) (a : ℕ) where
+  mapper-d : d .cart .mapper ≡ Mmc3
+  mapper-d = swapped r .is-mmc3
+
+  mmc3-place : (e : Board) → e .cart .mapper ≡ Mmc3 → writePlace e a ≡ mmc3.writePlaceIn (e .cart .mode) (e .mmc3) (e .cart) a
+  unfolding writePlace writePlaceOn
+  mmc3-place e h = subst⁻¹ (λ (x : MapperType). writePlaceOn x e a ≡ mmc3.writePlaceIn (e .cart .mode) (e .mmc3) (e .cart) a) h refl
+
+  place-alike : (mode : Mode) → b .cart .mode ≡ mode → isAccepted (writePlace b a) ≡ isAccepted (writePlace d a)
+  unfolding mmc3.writePlaceIn
+  place-alike House e =
+      let f = ap (λ (c : Cartridge). c .mode) (sym (r .cart)) ∙ e in
+      ap isAccepted
+      (mmc3-place b (r .is-mmc3)
+      ∙ ap (λ (m : Mode). mmc3.writePlaceIn m (b .mmc3) (b .cart) a) e
+      ∙ house-place (b .mmc3) (d .mmc3) a (r .irq)
+      ∙ sym (ap (λ (m : Mode). mmc3.writePlaceIn m (d .mmc3) (d .cart) a) f)
+      ∙ sym (mmc3-place d mapper-d))
+  place-alike OnBoard e =
+      let f = ap (λ (c : Cartridge). c .mode) (sym (r .cart)) ∙ e in
+      found-accepted (writePlace b a) (board-writes b e (r .first) a) ∙ sym (found-accepted (writePlace d a) (board-writes d f (r .second) a))
+
+  loaded-alike : (n : ℕ) → isLoaded b n ≡ isLoaded d n
+  unfolding isLoaded
+  loaded-alike n =
+      ap (λ (t : Bool). t && eqb n (b .cart .length)) (r .first ∙ sym (r .second)) ∙ ap (λ (c : Cartridge). inRange d && eqb n (c .length)) (r .cart)
+
+  guarded-alike : (rams s t : Bool) (p q : Place) → s ≡ t → isAccepted p ≡ isAccepted q → isAccepted (guarded rams s p) ≡ isAccepted (guarded rams t q)
+  unfolding guarded
+  guarded-alike rams s t p q e f = subst (λ (x : Bool). isAccepted (cond rams (cond s p (Refused StateOutOfRange)) (Refused RamNot8K)) ≡ isAccepted (cond rams (cond x q (Refused StateOutOfRange)) (Refused RamNot8K))) e (alike (λ (x y : Place). isAccepted x ≡ isAccepted y) rams (alike (λ (x y : Place). isAccepted x ≡ isAccepted y) s f refl) refl)
+
+  accepted-alike : (l : Lent) → accepts b l a ≡ accepts d l a
+  unfolding landing
+  accepted-alike l =
+      guarded-alike (ramsFit (length (l .prg)) (length (l .chr))) (isLoaded b (length (l .image))) (isLoaded d (length (l .image))) (writePlace b a) (writePlace d a)
+      (loaded-alike (length (l .image))) (place-alike (b .cart .mode) refl)
+
+-- the board after a write, by whether it is accepted
+after-write : (b : Board) (p : Place) (v a : ℕ) → writtenAs b p v a .board ≡ cond (isAccepted p) (moved b v a .board) b
+unfolding writtenAs isAccepted
+after-write b (Refused why) v a = refl
+after-write b (Prg i) v a = refl
+after-write b (Chr i) v a = refl
+after-write b (PrgRam i) v a = refl
+after-write b (ChrRam i) v a = refl
+after-write b Zero v a = refl
+
+write-irq : {b d : Board} → Alike b d → (l : Lent) (a v : ℕ) → next b (write l a v) .mmc3 .irq ≡ next d (write l a v) .mmc3 .irq
+unfolding next
+write-irq {b} {d} r l a v =
+    ap (λ (x : Board). x .mmc3 .irq) (after-write b (landing b (l .image) (l .prg) (l .chr) a) v a)
+    ∙ subst (λ (t : Bool). cond (accepts b l a) (moved b v a .board) b .mmc3 .irq ≡ cond t (moved d v a .board) d .mmc3 .irq) (accepted-alike r a l)
+    (alike (λ (x y : Board). x .mmc3 .irq ≡ y .mmc3 .irq) (accepts b l a)
+    (ap (λ (m : mmc3-type.Mmc3). m .irq) (moved-mmc3 b (b .cart .mapper) refl (r .is-mmc3) v a)
+    ∙ written-irq (b .mmc3) (d .mmc3) v a (r .irq)
+    ∙ sym (ap (λ (m : mmc3-type.Mmc3). m .irq) (moved-mmc3 d (d .cart .mapper) refl (swapped r .is-mmc3) v a)))
+    (r .irq))
+    ∙ sym (ap (λ (x : Board). x .mmc3 .irq) (after-write d (landing d (l .image) (l .prg) (l .chr) a) v a))
+
+-- a clock of a board in range is one of its unit
+module _ (b : Board) (ok : inRange b ≡ true) (is-mmc3 : b .cart .mapper ≡ Mmc3) where
+  tick-irq : next b tick .mmc3 .irq ≡ mmc3-clock.clockIn (b .cart .mode) (b .mmc3 .irq) .irq
+  unfolding next clock ticked tickedOn mmc3Ticked mmc3-clock.clocked mmc3-clock.withIrq
+  tick-irq =
+      rw (next, clock, ok)
+      (subst⁻¹ (λ (x : MapperType). tickedOn x b .board .mmc3 .irq ≡ mmc3-clock.clockIn (b .cart .mode) (b .mmc3 .irq) .irq) is-mmc3 refl)
+
+  tick-answer : clock b .answer ≡ yesNo (mmc3-clock.clockIn (b .cart .mode) (b .mmc3 .irq) .answer)
+  unfolding clock ticked tickedOn mmc3Ticked mmc3-clock.clocked
+  tick-answer =
+      rw ok
+      (subst⁻¹ (λ (x : MapperType). tickedOn x b .answer ≡ yesNo (mmc3-clock.clockIn (b .cart .mode) (b .mmc3 .irq) .answer)) is-mmc3 refl)
+
+  -- an accepted write is one of the board
+  accepted-irq : (l : Lent) (a v : ℕ) → accepts b l a ≡ true → next b (write l a v) .mmc3 ≡ mmc3-write.written (b .mmc3) v a .mmc3
+  unfolding next
+  accepted-irq l a v e =
+      ap (λ (x : Board). x .mmc3) (after-write b (landing b (l .image) (l .prg) (l .chr) a) v a)
+      ∙ subst⁻¹ (λ (t : Bool). cond t (moved b v a .board) b .mmc3 ≡ mmc3-write.written (b .mmc3) v a .mmc3) e (moved-mmc3 b (b .cart .mapper) refl is-mmc3 v a)
+
+read-irq : {b d : Board} → Alike b d → (l : Lent) (a : ℕ) → next b (read l a) .mmc3 .irq ≡ next d (read l a) .mmc3 .irq
+unfolding next
+read-irq r l a = r .irq
+
+-- one clock of one unit in one mode
+same-clock : {A : Type 0} (f : Mode → Irq → A) {b d : Board} → Alike b d → f (b .cart .mode) (b .mmc3 .irq) ≡ f (d .cart .mode) (d .mmc3 .irq)
+same-clock f {b} {d} r = ap (λ (c : Cartridge). f (c .mode) (b .mmc3 .irq)) (r .cart) ∙ ap (f (d .cart .mode)) (r .irq)
+
+-- any call keeps what the boards have in common
+next-alike : {b d : Board} → Alike b d → (c : Call) → Alike (next b c) (next d c)
+next-alike {b} {d} r c =
+    record {
+      cart = next-keeps-cart b c ∙ r .cart ∙ sym (next-keeps-cart d c);
+      is-mmc3 = ap (λ (x : Cartridge). x .mapper) (next-keeps-cart b c) ∙ r .is-mmc3;
+      first = next-in-range b c (r .first);
+      second = next-in-range d c (r .second);
+      irq = units c;
+    }
+  where
+    units : (c : Call) → next b c .mmc3 .irq ≡ next d c .mmc3 .irq
+    units (read l a) = read-irq r l a
+    units (write l a v) = write-irq r l a v
+    units tick =
+        tick-irq b (r .first) (r .is-mmc3)
+        ∙ same-clock (λ (m : Mode) (i : Irq). mmc3-clock.clockIn m i .irq) r
+        ∙ sym (tick-irq d (r .second) (swapped r .is-mmc3))
+
+answer-alike : {b d : Board} → Alike b d → clock b .answer ≡ clock d .answer
+answer-alike {b} {d} r =
+    tick-answer b (r .first) (r .is-mmc3)
+    ∙ same-clock (λ (m : Mode) (i : Irq). yesNo (mmc3-clock.clockIn m i .answer)) r
+    ∙ sym (tick-answer d (r .second) (swapped r .is-mmc3))
+
+answers-alike : {b d : Board} → Alike b d → (cs : List Call) → irqAnswers b cs ≡ irqAnswers d cs
+answers-alike r [] = refl
+answers-alike r (read l a ∷ cs) = answers-alike (next-alike r (read l a)) cs
+answers-alike r (write l a v ∷ cs) = answers-alike (next-alike r (write l a v)) cs
+answers-alike r (tick ∷ cs) = cons-alike (answer-alike r) (answers-alike (next-alike r tick) cs)
+
+-- the unit after latch v, reload and enable, whatever it was
+abbrev ready : ℕ → ℕ → Irq
+ready v c = record { enabled = true; latch = v; counter = c; reload = true }
+
+module _ (m : mmc3-type.Mmc3) (v a : ℕ) where
+  latches : isLatch a ≡ true → mmc3-write.written m v a .mmc3 .irq ≡ record { enabled = m .irq .enabled; latch = v; counter = m .irq .counter; reload = m .irq .reload }
+  unfolding mmc3-write.written mmc3-write.writtenEven mmc3-write.kept mmc3-write.latched mmc3-clock.withIrq
+  latches h =
+      let p = split-3 (eqb (a % 2) 0) (not (ltb a 0xC000)) (ltb a 0xE000) h in
+      let g = ltb-false a 0xC000 (not-true (ltb a 0xC000) (p .1)) in
+      let g₈ : 0x8000 ≤ a = omega arith in
+      let g₁₀ : 0xA000 ≤ a = omega arith in
+      rw (p .0, le-ltb a 0x8000 g₈, le-ltb a 0xA000 g₁₀, le-ltb a 0xC000 g, p .2) refl
+
+  reloads : isReload a ≡ true → mmc3-write.written m v a .mmc3 .irq ≡ record { enabled = m .irq .enabled; latch = m .irq .latch; counter = m .irq .counter; reload = true }
+  unfolding mmc3-write.written mmc3-write.writtenOdd mmc3-write.kept mmc3-write.marked mmc3-clock.withIrq
+  reloads h =
+      let p = split-3 (not (eqb (a % 2) 0)) (not (ltb a 0xC000)) (ltb a 0xE000) h in
+      let g = ltb-false a 0xC000 (not-true (ltb a 0xC000) (p .1)) in
+      let g₈ : 0x8000 ≤ a = omega arith in
+      let g₁₀ : 0xA000 ≤ a = omega arith in
+      rw (not-true (eqb (a % 2) 0) (p .0), le-ltb a 0x8000 g₈, le-ltb a 0xA000 g₁₀, le-ltb a 0xC000 g, p .2) refl
+
+  enables : isEnable a ≡ true → mmc3-write.written m v a .mmc3 .irq ≡ record { enabled = true; latch = m .irq .latch; counter = m .irq .counter; reload = m .irq .reload }
+  unfolding mmc3-write.written mmc3-write.writtenOdd mmc3-write.kept mmc3-write.switched mmc3-clock.withIrq
+  enables h =
+      let o = not-true (eqb (a % 2) 0) (and-left (not (eqb (a % 2) 0)) (not (ltb a 0xE000)) h) in
+      let g = ltb-false a 0xE000 (not-true (ltb a 0xE000) (and-right (not (eqb (a % 2) 0)) (not (ltb a 0xE000)) h)) in
+      let g₈ : 0x8000 ≤ a = omega arith in
+      let g₁₀ : 0xA000 ≤ a = omega arith in
+      let g₁₂ : 0xC000 ≤ a = omega arith in
+      rw (o, le-ltb a 0x8000 g₈, le-ltb a 0xA000 g₁₀, le-ltb a 0xC000 g₁₂, le-ltb a 0xE000 g) refl
+
+settled : (mode : Mode) (v c e : ℕ) → mmc3-clock.clockIn mode (ready v c) ≡ mmc3-clock.clockIn mode (ready v e)
+unfolding mmc3-clock.clockIn mmc3-clock.houseClock mmc3-clock.boardClock mmc3-clock.nextCounter
+settled House v c e = refl
+settled OnBoard v c e = refl
+
+abbrev irqOf : mmc3-type.Mmc3 → Irq
+irqOf m = m .irq
+
+-- the three writes leave such a unit
+module _ (b : Board) (ok : inRange b ≡ true) (is-mmc3 : b .cart .mapper ≡ Mmc3) (w : Arming) (p : Accepts b w) where
+  ok₁ : inRange (latched b w) ≡ true
+  ok₁ = next-in-range b (write (w .first) (w .toLatch) (w .latch)) ok
+
+  ok₂ : inRange (reloaded b w) ≡ true
+  ok₂ = next-in-range (latched b w) (write (w .second) (w .toReload) (w .reloadByte)) ok₁
+
+  ok₃ : inRange (armed b w) ≡ true
+  ok₃ = next-in-range (reloaded b w) (write (w .third) (w .toEnable) (w .enableByte)) ok₂
+
+  cart₁ : latched b w .cart ≡ b .cart
+  cart₁ = next-keeps-cart b (write (w .first) (w .toLatch) (w .latch))
+
+  cart₂ : reloaded b w .cart ≡ b .cart
+  cart₂ = next-keeps-cart (latched b w) (write (w .second) (w .toReload) (w .reloadByte)) ∙ cart₁
+
+  cart₃ : armed b w .cart ≡ b .cart
+  cart₃ = next-keeps-cart (reloaded b w) (write (w .third) (w .toEnable) (w .enableByte)) ∙ cart₂
+
+  irq₁ : latched b w .mmc3 .irq ≡ record { enabled = b .mmc3 .irq .enabled; latch = w .latch; counter = b .mmc3 .irq .counter; reload = b .mmc3 .irq .reload }
+  irq₁ = ap irqOf (accepted-irq b ok is-mmc3 (w .first) (w .toLatch) (w .latch) (p .latch)) ∙ latches (b .mmc3) (w .latch) (w .toLatch) (p .is-latch)
+
+  irq₂ : reloaded b w .mmc3 .irq ≡ record { enabled = b .mmc3 .irq .enabled; latch = w .latch; counter = b .mmc3 .irq .counter; reload = true }
+  irq₂ =
+      ap irqOf (accepted-irq (latched b w) ok₁ (ap (λ (c : Cartridge). c .mapper) cart₁ ∙ is-mmc3) (w .second) (w .toReload) (w .reloadByte) (p .reload))
+      ∙ reloads (latched b w .mmc3) (w .reloadByte) (w .toReload) (p .is-reload)
+      ∙ (λ i. record { enabled = irq₁ i .enabled; latch = irq₁ i .latch; counter = irq₁ i .counter; reload = true })
+
+  irq₃ : armed b w .mmc3 .irq ≡ ready (w .latch) (b .mmc3 .irq .counter)
+  irq₃ =
+      ap irqOf (accepted-irq (reloaded b w) ok₂ (ap (λ (c : Cartridge). c .mapper) cart₂ ∙ is-mmc3) (w .third) (w .toEnable) (w .enableByte) (p .enable))
+      ∙ enables (reloaded b w .mmc3) (w .enableByte) (w .toEnable) (p .is-enable)
+      ∙ (λ i. record { enabled = true; latch = irq₂ i .latch; counter = irq₂ i .counter; reload = irq₂ i .reload })
+
+  mapper₃ : armed b w .cart .mapper ≡ Mmc3
+  mapper₃ = ap (λ (c : Cartridge). c .mapper) cart₃ ∙ is-mmc3
+
+-- from that clock on every IRQ answer is the same, in either mode, under the same calls
+pub mmc3-settles : (b d : Board) → OneImage b d → (w : Arming) → Accepts b w → Accepts d w → (cs : List Call)
+    → irqAnswers (armed b w) (tick ∷ cs) ≡ irqAnswers (armed d w) (tick ∷ cs)
+mmc3-settles b d one w p q cs = cons-alike said (answers-alike onward cs)
+  where
+    mp : d .cart .mapper ≡ Mmc3
+    mp = ap (λ (c : Cartridge). c .mapper) (sym (one .cart)) ∙ one .is-mmc3
+
+    carts : armed b w .cart ≡ armed d w .cart
+    carts = cart₃ b (one .first) (one .is-mmc3) w p ∙ one .cart ∙ sym (cart₃ d (one .second) mp w q)
+
+    clocks : mmc3-clock.clockIn (armed b w .cart .mode) (armed b w .mmc3 .irq) ≡ mmc3-clock.clockIn (armed d w .cart .mode) (armed d w .mmc3 .irq)
+    clocks =
+        ap (mmc3-clock.clockIn (armed b w .cart .mode)) (irq₃ b (one .first) (one .is-mmc3) w p)
+        ∙ settled (armed b w .cart .mode) (w .latch) (b .mmc3 .irq .counter) (d .mmc3 .irq .counter)
+        ∙ ap (λ (c : Cartridge). mmc3-clock.clockIn (c .mode) (ready (w .latch) (d .mmc3 .irq .counter))) carts
+        ∙ sym (ap (mmc3-clock.clockIn (armed d w .cart .mode)) (irq₃ d (one .second) mp w q))
+
+    mb : armed b w .cart .mapper ≡ Mmc3
+    mb = mapper₃ b (one .first) (one .is-mmc3) w p
+
+    md : armed d w .cart .mapper ≡ Mmc3
+    md = mapper₃ d (one .second) mp w q
+
+    ob : inRange (armed b w) ≡ true
+    ob = ok₃ b (one .first) (one .is-mmc3) w p
+
+    od : inRange (armed d w) ≡ true
+    od = ok₃ d (one .second) mp w q
+
+    said : clock (armed b w) .answer ≡ clock (armed d w) .answer
+    said = tick-answer (armed b w) ob mb ∙ ap (λ (c : Clocked). yesNo (c .answer)) clocks ∙ sym (tick-answer (armed d w) od md)
+
+    onward : Alike (next (armed b w) tick) (next (armed d w) tick)
+    onward =
+        record {
+          cart = next-keeps-cart (armed b w) tick ∙ carts ∙ sym (next-keeps-cart (armed d w) tick);
+          is-mmc3 = ap (λ (c : Cartridge). c .mapper) (next-keeps-cart (armed b w) tick) ∙ mb;
+          first = next-in-range (armed b w) tick ob;
+          second = next-in-range (armed d w) tick od;
+          irq = tick-irq (armed b w) ob mb ∙ ap (λ (c : Clocked). c .irq) clocks ∙ sym (tick-irq (armed d w) od md);
+        }
+
+-- two boards that meet all this: one as it is loaded, and one in the midst of a game
+abbrev lent : Lent
+lent = record { image = mmc3-image; prg = ram; chr = ram }
+
+abbrev fresh : Board
+fresh = loadOf House mmc3-image .board
+
+abbrev used : Board
+used =
+    withMmc3 fresh
+    (record {
+      select = 3;
+      prgmode = 1;
+      chrmode = 1;
+      regs = 2 ∷ 4 ∷ 1 ∷ 2 ∷ 3 ∷ 4 ∷ 5 ∷ 6 ∷ [];
+      irq = record { enabled = true; latch = 9; counter = 7; reload = false };
+    })
+
+abbrev arming : Arming
+arming =
+    record {
+      latch = 2;
+      toLatch = 0xC000;
+      toReload = 0xC001;
+      toEnable = 0xE001;
+      reloadByte = 0;
+      enableByte = 0;
+      first = lent;
+      second = lent;
+      third = lent;
+    }
+
+pub met-image : OneImage fresh used
+unfolding opened
+met-image = record { cart = refl; is-mmc3 = refl; first = refl; second = refl }
+
+pub met-fresh : Accepts fresh arming
+unfolding opened
+met-fresh = record { is-latch = refl; is-reload = refl; is-enable = refl; latch = refl; reload = refl; enable = refl }
+
+pub met-used : Accepts used arming
+unfolding opened
+met-used = record { is-latch = refl; is-reload = refl; is-enable = refl; latch = refl; reload = refl; enable = refl }

@@ -1,0 +1,76 @@
+-- Demand 3, MMC3: two boards of one image and mode that accept the same latch, reload, enable and clock agree on every IRQ answer from that clock on.
+use Prim.Native.Nat.{ℕ, _%_}
+use mathlib.Core.Path.{_≡_}
+use mathlib.Core.Bool.{Bool, true, false, not, _&&_}
+use mathlib.Core.List.{List, [], _∷_}
+use lib.Dec.{ltb, eqb}
+use Rattle.cartridge.specs.declared.MapperType.the-variants.{Mmc3}
+use Rattle.boards.specs.Range.{inRange}
+use Rattle.boards.specs.Clock as clocks
+use Rattle.boards.specs.Write.{landing}
+use Rattle.boards.specs.Runs.{Lent, Call, next}
+use Rattle.boards.specs.Runs.Call.{read, write, clock}
+use Rattle.boards.specs.declared.Board.{Board}
+use Rattle.boards.specs.declared.ClockAnswer.{ClockAnswer}
+use Rattle.laws.specs.Loads.{isAccepted}
+
+-- two MMC3 boards of one image and mode, after any two histories
+pub record OneImage (b d : Board) : Type 0 where
+  pub cart : b .cart ≡ d .cart
+  pub is-mmc3 : b .cart .mapper ≡ Mmc3
+  pub first : inRange b ≡ true
+  pub second : inRange d ≡ true
+
+-- an even write to C000-DFFF
+abbrev pub isLatch : ℕ → Bool
+isLatch a = eqb (a % 2) 0 && not (ltb a 0xC000) && ltb a 0xE000
+
+-- an odd write to C000-DFFF
+abbrev pub isReload : ℕ → Bool
+isReload a = not (eqb (a % 2) 0) && not (ltb a 0xC000) && ltb a 0xE000
+
+-- an odd write to E000-FFFF
+abbrev pub isEnable : ℕ → Bool
+isEnable a = not (eqb (a % 2) 0) && not (ltb a 0xE000)
+
+-- a write that the board accepts
+abbrev pub accepts : Board → Lent → ℕ → Bool
+accepts b l a = isAccepted (landing b (l .image) (l .prg) (l .chr) a)
+
+-- the IRQ answers of a list of calls
+abbrev pub irqAnswers : Board → List Call → List ClockAnswer
+irqAnswers b [] = []
+irqAnswers b (read l a ∷ cs) = irqAnswers (next b (read l a)) cs
+irqAnswers b (write l a v ∷ cs) = irqAnswers (next b (write l a v)) cs
+irqAnswers b (clock ∷ cs) = clocks.clock b .answer ∷ irqAnswers (next b clock) cs
+
+-- the three writes, with the buffers lent to each
+pub record Arming : Type 0 where
+  pub latch : ℕ
+  pub toLatch : ℕ
+  pub toReload : ℕ
+  pub toEnable : ℕ
+  pub reloadByte : ℕ
+  pub enableByte : ℕ
+  pub first : Lent
+  pub second : Lent
+  pub third : Lent
+
+-- the board after each of them
+abbrev pub latched : Board → Arming → Board
+latched b w = next b (write (w .first) (w .toLatch) (w .latch))
+
+abbrev pub reloaded : Board → Arming → Board
+reloaded b w = next (latched b w) (write (w .second) (w .toReload) (w .reloadByte))
+
+abbrev pub armed : Board → Arming → Board
+armed b w = next (reloaded b w) (write (w .third) (w .toEnable) (w .enableByte))
+
+-- they go to the latch, the reload mark and the enable, straight after one another, and the board accepts each
+pub record Accepts (b : Board) (w : Arming) : Type 0 where
+  pub is-latch : isLatch (w .toLatch) ≡ true
+  pub is-reload : isReload (w .toReload) ≡ true
+  pub is-enable : isEnable (w .toEnable) ≡ true
+  pub latch : accepts b (w .first) (w .toLatch) ≡ true
+  pub reload : accepts (latched b w) (w .second) (w .toReload) ≡ true
+  pub enable : accepts (reloaded b w) (w .third) (w .toEnable) ≡ true
