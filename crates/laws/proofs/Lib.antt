@@ -1,5 +1,6 @@
 mod Opened
 mod Cases
+mod Accepting
 mod Tables
 mod Mmc1Ranges
 mod Mmc3Ranges

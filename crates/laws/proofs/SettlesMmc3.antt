@@ -6,17 +6,16 @@ use mathlib.Core.Bool.{Bool, true, false, cond, not, _&&_}
 use mathlib.Core.List.{List, [], _∷_}
 use native.Mathlib.Omega.{arith}
 use lib.Dec.{ltb, eqb}
-use lib.ListN.{length}
 use borrow.Author.Tests.{ltb-true, ltb-false, not-true, le-ltb}
 use Rattle.rules.proofs.Bools.{and-left, and-right, split-3}
 use Rattle.common.specs.declared.Mode.{Mode}
 use Rattle.common.specs.declared.Mode.the-variants.{House, Board as OnBoard}
 use Rattle.cartridge.specs.declared.Cartridge.{Cartridge}
-use Rattle.cartridge.specs.declared.Refusal.the-variants.{IrqPending, RamNot8K, StateOutOfRange}
+use Rattle.cartridge.specs.declared.Refusal.the-variants.{IrqPending}
 use Rattle.cartridge.specs.declared.MapperType.{MapperType}
 use Rattle.cartridge.specs.declared.MapperType.the-variants.{Mmc3}
 use Rattle.places.specs.declared.Place.{Place}
-use Rattle.places.specs.declared.Place.the-variants.{Prg, Chr, PrgRam, ChrRam, Zero, Refused}
+use Rattle.places.specs.declared.Place.the-variants.{PrgRam, Zero, Refused}
 use Rattle.mmc3.specs.Clock as mmc3-clock
 use Rattle.mmc3.specs.Read as mmc3
 use Rattle.mmc3.specs.Write as mmc3-write
@@ -24,7 +23,7 @@ use Rattle.mmc3.specs.declared.Irq.{Irq}
 use Rattle.mmc3.specs.declared.Clocked.{Clocked}
 use Rattle.mmc3.specs.declared.Mmc3 as mmc3-type
 use Rattle.mmc3.specs.declared.Wrote.{Wrote}
-use Rattle.boards.specs.Range.{inRange, isLoaded, ramsFit, guarded}
+use Rattle.boards.specs.Range.{inRange}
 use Rattle.boards.specs.Write.{writePlaceOn, writePlace, withMmc3, moved, writtenAs, landing}
 use Rattle.boards.specs.Clock.{yesNo, mmc3Ticked, tickedOn, ticked, clock, unmoved}
 use Rattle.boards.specs.Runs.{Lent, Call, next}
@@ -32,18 +31,13 @@ use Rattle.boards.specs.Runs.Call.{read, write, clock as tick}
 use Rattle.boards.specs.declared.Board.{Board}
 use Rattle.boards.specs.declared.ClockAnswer.{ClockAnswer}
 use Rattle.laws.specs.Loads.{isAccepted}
-use Rattle.laws.specs.Within.{Found}
 use Rattle.laws.specs.SettlesMmc3.{OneImage, isLatch, isReload, isEnable, accepts, irqAnswers, Arming, latched, reloaded, armed, Accepts}
 use Rattle.laws.specs.PLines.{mmc3 as mmc3-image, ram, loadOf}
 use Rattle.laws.proofs.Opened.{opened}
 use Rattle.laws.proofs.Ranges.{next-in-range, next-keeps-cart}
-use Rattle.laws.proofs.Within.{board-writes}
+use Rattle.laws.proofs.Cases.{alike}
+use Rattle.laws.proofs.Accepting.{board-alike, accepted-alike, after-write}
 use Rattle.laws.proofs.PublicClocks.{moved-mmc3}
-
--- two choices by one test, arm by arm
-alike : {A : Type 0} (R : A → A → Type 0) (t : Bool) {x y x′ y′ : A} → R x x′ → R y y′ → R (cond t x y) (cond t x′ y′)
-alike R true p q = p
-alike R false p q = q
 
 abbrev SameIrq : Wrote → Wrote → Type 0
 SameIrq w u = w .mmc3 .irq ≡ u .mmc3 .irq
@@ -71,15 +65,6 @@ house-place m n a e =
     ap
     (λ (i : Irq). cond (ltb a 0x6000) Zero (cond (ltb a 0x8000) (PrgRam (a - 0x6000)) (cond (ltb a 0xE000) Zero (cond (mmc3-clock.isPending i && eqb (a % 2) 0) (Refused IrqPending) Zero))))
     e
-
-found-accepted : (p : Place) → Found p → isAccepted p ≡ true
-unfolding isAccepted
-found-accepted (Refused why) f = absurd f
-found-accepted (Prg i) f = refl
-found-accepted (Chr i) f = refl
-found-accepted (PrgRam i) f = refl
-found-accepted (ChrRam i) f = refl
-found-accepted Zero f = refl
 
 cons-alike : {A : Type 0} {x y : A} {xs ys : List A} → x ≡ y → xs ≡ ys → x ∷ xs ≡ y ∷ ys
 cons-alike p q = λ i. p i ∷ q i
@@ -115,40 +100,16 @@ module _ {b d : Board} (r : Alike b d) (a : ℕ) where
       ∙ house-place (b .mmc3) (d .mmc3) a (r .irq)
       ∙ sym (ap (λ (m : Mode). mmc3.writePlaceIn m (d .mmc3) (d .cart) a) f)
       ∙ sym (mmc3-place d mapper-d))
-  place-alike OnBoard e =
-      let f = ap (λ (c : Cartridge). c .mode) (sym (r .cart)) ∙ e in
-      found-accepted (writePlace b a) (board-writes b e (r .first) a) ∙ sym (found-accepted (writePlace d a) (board-writes d f (r .second) a))
+  place-alike OnBoard e = board-alike b d (r .cart) (r .first) (r .second) e a
 
-  loaded-alike : (n : ℕ) → isLoaded b n ≡ isLoaded d n
-  unfolding isLoaded
-  loaded-alike n =
-      ap (λ (t : Bool). t && eqb n (b .cart .length)) (r .first ∙ sym (r .second)) ∙ ap (λ (c : Cartridge). inRange d && eqb n (c .length)) (r .cart)
-
-  guarded-alike : (rams s t : Bool) (p q : Place) → s ≡ t → isAccepted p ≡ isAccepted q → isAccepted (guarded rams s p) ≡ isAccepted (guarded rams t q)
-  unfolding guarded
-  guarded-alike rams s t p q e f = subst (λ (x : Bool). isAccepted (cond rams (cond s p (Refused StateOutOfRange)) (Refused RamNot8K)) ≡ isAccepted (cond rams (cond x q (Refused StateOutOfRange)) (Refused RamNot8K))) e (alike (λ (x y : Place). isAccepted x ≡ isAccepted y) rams (alike (λ (x y : Place). isAccepted x ≡ isAccepted y) s f refl) refl)
-
-  accepted-alike : (l : Lent) → accepts b l a ≡ accepts d l a
-  unfolding landing
-  accepted-alike l =
-      guarded-alike (ramsFit (length (l .prg)) (length (l .chr))) (isLoaded b (length (l .image))) (isLoaded d (length (l .image))) (writePlace b a) (writePlace d a)
-      (loaded-alike (length (l .image))) (place-alike (b .cart .mode) refl)
-
--- the board after a write, by whether it is accepted
-after-write : (b : Board) (p : Place) (v a : ℕ) → writtenAs b p v a .board ≡ cond (isAccepted p) (moved b v a .board) b
-unfolding writtenAs isAccepted
-after-write b (Refused why) v a = refl
-after-write b (Prg i) v a = refl
-after-write b (Chr i) v a = refl
-after-write b (PrgRam i) v a = refl
-after-write b (ChrRam i) v a = refl
-after-write b Zero v a = refl
+  both-accept : (l : Lent) → accepts b l a ≡ accepts d l a
+  both-accept l = accepted-alike b d (r .cart) (r .first) (r .second) l a (place-alike (b .cart .mode) refl)
 
 write-irq : {b d : Board} → Alike b d → (l : Lent) (a v : ℕ) → next b (write l a v) .mmc3 .irq ≡ next d (write l a v) .mmc3 .irq
 unfolding next
 write-irq {b} {d} r l a v =
     ap (λ (x : Board). x .mmc3 .irq) (after-write b (landing b (l .image) (l .prg) (l .chr) a) v a)
-    ∙ subst (λ (t : Bool). cond (accepts b l a) (moved b v a .board) b .mmc3 .irq ≡ cond t (moved d v a .board) d .mmc3 .irq) (accepted-alike r a l)
+    ∙ subst (λ (t : Bool). cond (accepts b l a) (moved b v a .board) b .mmc3 .irq ≡ cond t (moved d v a .board) d .mmc3 .irq) (both-accept r a l)
     (alike (λ (x y : Board). x .mmc3 .irq ≡ y .mmc3 .irq) (accepts b l a)
     (ap (λ (m : mmc3-type.Mmc3). m .irq) (moved-mmc3 b (b .cart .mapper) refl (r .is-mmc3) v a)
     ∙ written-irq (b .mmc3) (d .mmc3) v a (r .irq)

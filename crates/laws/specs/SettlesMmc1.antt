@@ -1,0 +1,98 @@
+-- Demand 3, MMC1: two boards of one image and mode accept a bit 7 write and then get the same calls; which loads are the same, and when the boards agree.
+use Prim.Native.Nat.{ℕ, _+_, _<_}
+use mathlib.Core.Path.{_≡_}
+use mathlib.Core.Bool.{Bool, true, false, cond}
+use mathlib.Core.List.{List, [], _∷_, map}
+use lib.Dec.{ltb}
+use lib.ListN.{length, replicate, getD, take}
+use Rattle.common.specs.Common.{isSigned}
+use Rattle.cartridge.specs.declared.MapperType.the-variants.{Mmc1}
+use Rattle.mmc1.specs.declared.Register.{Register}
+use Rattle.mmc1.specs.declared.Register.the-variants.{Control, Chr0, Chr1, Prg}
+use Rattle.boards.specs.Range.{inRange}
+use Rattle.boards.specs.Runs.{Lent, Call, next, after}
+use Rattle.boards.specs.Runs.Call.{read, write, clock}
+use Rattle.boards.specs.declared.Board.{Board}
+use Rattle.laws.specs.Loads.{Done, isSerial, loads}
+use Rattle.laws.specs.Loads.Done.{nothing, load}
+use Rattle.laws.specs.SettlesMmc3.{accepts}
+
+-- "two boards of one image and mode", after "any two histories"
+pub record OneImage (b d : Board) : Type 0 where
+  pub cart : b .cart ≡ d .cart
+  pub is-mmc1 : b .cart .mapper ≡ Mmc1
+  pub first : inRange b ≡ true
+  pub second : inRange d ≡ true
+
+-- a write, with the buffers lent to it
+pub record Write : Type 0 where
+  pub lent : Lent
+  pub address : ℕ
+  pub byte : ℕ
+
+-- the board accepts it, and it is "a write with bit 7 set to 8000-FFFF"
+pub record Clears (w : Write) (b : Board) : Type 0 where
+  pub to-8000-FFFF : ltb (w .address) 0x8000 ≡ false
+  pub bit-7 : isSigned (w .byte) ≡ true
+  pub accepted : accepts b (w .lent) (w .address) ≡ true
+
+-- the board after it
+abbrev pub cleared : Write → Board → Board
+cleared w b = next b (write (w .lent) (w .address) (w .byte))
+
+-- a call with its buffers' contents wiped and their lengths kept
+abbrev pub wipedLent : Lent → Lent
+wipedLent l =
+    record { image = replicate (length (l .image)) 0; prg = replicate (length (l .prg)) 0; chr = replicate (length (l .chr)) 0 }
+
+abbrev pub wiped : Call → Call
+wiped (read l a) = read (wipedLent l) a
+wiped (write l a v) = write (wipedLent l) a v
+wiped clock = clock
+
+-- "the same calls with lent buffers of the same lengths (contents may differ)"
+abbrev pub SameCalls : List Call → List Call → Type 0
+SameCalls cs ds = map wiped cs ≡ map wiped ds
+
+-- what the call at a position completes; a refused write completes nothing
+abbrev pub doneAt : Board → List Call → ℕ → Done
+doneAt b cs i = getD (loads b cs) i nothing
+
+-- how many of the calls are serial writes, accepted ones without bit 7
+abbrev pub isSerialWrite : Board → Call → Bool
+isSerialWrite b (read l a) = false
+isSerialWrite b (write l a v) = isSerial b l a v
+isSerialWrite b clock = false
+
+abbrev pub serialWrites : Board → List Call → ℕ
+serialWrites b [] = 0
+serialWrites b (c ∷ cs) = cond (isSerialWrite b c) 1 0 + serialWrites (next b c) cs
+
+-- "bit 4: 4 KB CHR mode", as it stands when the call at a position is made
+abbrev pub bit4At : Board → List Call → ℕ → ℕ
+bit4At b cs i = after b (take i cs) .mmc1 .regs .chrmode
+
+-- the call at a position completes a load of a register
+pub record LoadsAt (b : Board) (cs : List Call) (r : Register) (i : ℕ) : Type 0 where
+  pub bits : ℕ
+  pub done : doneAt b cs i ≡ load r bits
+
+-- "a control load, after it a CHR 0 load and a CHR 1 load made while control bit 4 is set, and anywhere a PRG load": the positions of the four
+pub record Settled (b : Board) (cs : List Call) : Type 0 where
+  pub control : ℕ
+  pub chr0 : ℕ
+  pub chr1 : ℕ
+  pub prg : ℕ
+  pub control-load : LoadsAt b cs Control control
+  pub chr0-load : LoadsAt b cs Chr0 chr0
+  pub chr1-load : LoadsAt b cs Chr1 chr1
+  pub prg-load : LoadsAt b cs Prg prg
+  pub chr0-after-it : control < chr0
+  pub chr1-after-it : control < chr1
+  pub while-bit-4-is-set : bit4At b cs chr1 ≡ 1
+
+-- "the boards agree in all that answers depend on": what was loaded, the mirroring and MMC1's registers
+pub record Agree (b d : Board) : Type 0 where
+  pub cart : b .cart ≡ d .cart
+  pub mirroring : b .mirroring ≡ d .mirroring
+  pub mmc1 : b .mmc1 ≡ d .mmc1
