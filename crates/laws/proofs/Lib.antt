@@ -4,6 +4,7 @@ mod Accepting
 mod Tables
 mod Mmc1Ranges
 mod Mmc3Ranges
+mod Mmc1Moves
 pub mod PLines
 pub mod Clocks
 pub mod PublicClocks
