@@ -14,3 +14,4 @@ pub mod Within
 pub mod Useless
 pub mod Choices
 pub mod SettlesMmc3
+pub mod SettlesMmc1
