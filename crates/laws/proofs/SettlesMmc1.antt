@@ -35,7 +35,7 @@ use Rattle.laws.specs.Loads.{Done, isAccepted, isSerial, completes, load
 use Rattle.laws.specs.Loads.Done.{nothing, load}
 use Rattle.laws.specs.SettlesMmc3.{accepts}
 use Rattle.laws.specs.SettlesMmc1.{OneImage, Write, Clears, cleared, wipedLent, wiped, SameCalls, doneAt, isSerialWrite, serialWrites, bit4At, LoadsAt, Settled, Agree}
-use Rattle.laws.proofs.Mmc1Moves.{Move, move, serialAfter, prgModeAfter, chrModeAfter, chr0After, chr1After, bankAfter, asks, boardAfter, next-is, done, completes-is, Common, by-move, next-common, one-done}
+use Rattle.laws.proofs.Mmc1Moves.{Move, move, serialAfter, prgModeAfter, chrModeAfter, chr0Stored, chr1Stored, chr0After, chr1After, bankAfter, asks, boardAfter, next-is, done, completes-is, Common, by-move, next-common, one-done}
 use Rattle.laws.proofs.Mmc1Moves.Move.{stay, clear, enter, fill}
 
 -- ---- the contents of lent buffers
@@ -193,3 +193,107 @@ keep-program b d r c =
       common = next-common (r .common) c;
       prg = by-move (r .common) (λ (x y : Board). x .mmc1 .regs .prg ≡ y .mmc1 .regs .prg) c (ap (bankAfter (move b c)) (r .prg));
     }
+
+-- a completed load is the move that fills its register
+filled : (k : Move) (w : Register) (v : ℕ) → done k ≡ load w v → k ≡ fill w v
+filled stay w v e = absurd (no-load w v e)
+filled clear w v e = absurd (no-load w v e)
+filled (enter t) w v e = absurd (no-load w v e)
+filled (fill r u) w v e = cc
+
+module _ {b d : Board} (r : Common b d) (w : Register) (c : Call) (v : ℕ) (e : completes b c ≡ load w v) where
+  by-load : (Q : Board → Board → Type 0) → Q (boardAfter (fill w v) (b .cart .mode) b) (boardAfter (fill w v) (b .cart .mode) d) → Q (next b c) (next d c)
+  by-load Q h =
+      by-move r Q c
+      (subst⁻¹ (λ (k : Move). Q (boardAfter k (b .cart .mode) b) (boardAfter k (b .cart .mode) d)) (filled (move b c) w v (sym (completes-is b (r .is-mmc1) c) ∙ e)) h)
+
+-- a control load on the real board sets the mirroring, and in house mode both boards have the header's
+screens : {b d : Board} → Common b d → (v : ℕ) (m : Mode) → b .cart .mode ≡ m → nextMirroring m (b .mirroring) (mirrorsOf Control v) ≡ nextMirroring m (d .mirroring) (mirrorsOf Control v)
+unfolding nextMirroring mirrorsOf
+screens {b} {d} r v House e =
+    house-screens b (r .first) e ∙ ap (λ (c : Cartridge). c .mirroring) (r .cart)
+    ∙ sym (house-screens d (r .second) (ap (λ (c : Cartridge). c .mode) (sym (r .cart)) ∙ e))
+screens r v OnBoard e = refl
+
+control-makes : Makes Common Any Control Modes
+control-makes b d r x c v e =
+    record {
+      common = next-common r c;
+      prgmode = by-load r Control c v e (λ (x y : Board). x .mmc1 .regs .prgmode ≡ y .mmc1 .regs .prgmode) refl;
+      chrmode = by-load r Control c v e (λ (x y : Board). x .mmc1 .regs .chrmode ≡ y .mmc1 .regs .chrmode) refl;
+      mirroring = by-load r Control c v e (λ (x y : Board). x .mirroring ≡ y .mirroring) (screens r v (b .cart .mode) refl);
+    }
+
+-- CHR 0 is stored by the CHR mode of the moment, which a control load has made one
+chr0-makes : Makes Modes Any Chr0 First
+chr0-makes b d r x c v e =
+    record {
+      modes = keep-modes b d r c;
+      chr0 =
+          by-load (r .common) Chr0 c v e (λ (x y : Board). x .mmc1 .regs .chr0 ≡ y .mmc1 .regs .chr0)
+          (ap (λ (n : ℕ). chr0Stored (b .cart .mode) n v) (r .chrmode));
+    }
+
+-- CHR 1 is stored in 4 KB mode
+abbrev Wide : Board → Type 0
+Wide b = b .mmc1 .regs .chrmode ≡ 1
+
+wide-stored : (m : Mode) (n v old : ℕ) → n ≡ 1 → chr1Stored m n v old ≡ v
+wide-stored House n v old e = rw e refl
+wide-stored OnBoard n v old e = refl
+
+chr1-makes : Makes Modes Wide Chr1 Second
+chr1-makes b d r x c v e =
+    let m = b .cart .mode in
+    record {
+      modes = keep-modes b d r c;
+      chr1 =
+          by-load (r .common) Chr1 c v e (λ (x y : Board). x .mmc1 .regs .chr1 ≡ y .mmc1 .regs .chr1)
+          (wide-stored m (b .mmc1 .regs .chrmode) v (b .mmc1 .regs .chr1) x
+          ∙ sym (wide-stored m (d .mmc1 .regs .chrmode) v (d .mmc1 .regs .chr1) (sym (r .chrmode) ∙ x)));
+    }
+
+prg-makes : Makes Common Any Prg Program
+prg-makes b d r x c v e =
+    record { common = next-common r c; prg = by-load r Prg c v e (λ (x y : Board). x .mmc1 .regs .prg ≡ y .mmc1 .regs .prg) refl }
+
+-- the four loads make the boards one
+settles : (b d : Board) → Common b d → (cs : List Call) → Settled b cs → Agree (after b cs) (after d cs)
+settles b d r cs s =
+    record {
+      cart = first .modes .common .cart;
+      mirroring = first .modes .mirroring;
+      mmc1 = λ i. record {
+        serial = first .modes .common .serial i;
+        regs = record {
+          prgmode = first .modes .prgmode i;
+          chrmode = first .modes .chrmode i;
+          chr0 = first .chr0 i;
+          chr1 = second .chr1 i;
+          prg = program .prg i;
+        };
+      };
+    }
+  where
+    first : First (after b cs) (after d cs)
+    first =
+        twice Common Modes First keep-common keep-modes keep-first Any Control Chr0 control-makes chr0-makes
+        b d r cs (s .control) (s .chr0) (s .chr0-after-it) (s .control-load) (s .chr0-load) tt
+
+    second : Second (after b cs) (after d cs)
+    second =
+        twice Common Modes Second keep-common keep-modes keep-second Wide Control Chr1 control-makes chr1-makes
+        b d r cs (s .control) (s .chr1) (s .chr1-after-it) (s .control-load) (s .chr1-load) (s .while-bit-4-is-set)
+
+    program : Program (after b cs) (after d cs)
+    program = once Common Program keep-common keep-program Any Prg prg-makes b d r cs (s .prg) (s .prg-load) tt
+
+-- ---- the bit 7 write
+clear-move : (w : Write) (b : Board) → Clears w b → move b (write (w .lent) (w .address) (w .byte)) ≡ clear
+unfolding move
+clear-move w b p = rw (move, p .accepted, p .to-8000-FFFF, p .bit-7) refl
+
+emptied : (w : Write) (b : Board) → b .cart .mapper ≡ Mmc1 → Clears w b → cleared w b .mmc1 .serial ≡ empty
+emptied w b e p =
+    ap (λ (x : Board). x .mmc1 .serial) (next-is b e (write (w .lent) (w .address) (w .byte)))
+    ∙ ap (λ (k : Move). serialAfter k (b .mmc1 .serial)) (clear-move w b p)
