@@ -5,6 +5,7 @@ mod Tables
 mod Mmc1Ranges
 mod Mmc3Ranges
 mod Mmc1Moves
+mod Mmc1Answers
 pub mod PLines
 pub mod Clocks
 pub mod PublicClocks

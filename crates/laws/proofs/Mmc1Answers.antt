@@ -1,0 +1,165 @@
+-- What an MMC1 board in range answers, stores and becomes is made of what was loaded, its mirroring and its MMC1 registers: two that agree in these answer alike
+-- for ever. Assumes nothing.
+use Prim.Native.Nat.{ℕ}
+use mathlib.Core.Path.{_≡_, refl, sym, ap, ap₂, _∙_, subst⁻¹}
+use mathlib.Core.Bool.{Bool, true, false, cond}
+use mathlib.Core.List.{List, [], _∷_}
+use lib.ListN.{length}
+use Rattle.common.specs.declared.Mode.{Mode}
+use Rattle.common.specs.declared.Mode.the-variants.{House, Board as OnBoard}
+use Rattle.cartridge.specs.declared.Cartridge.{Cartridge}
+use Rattle.cartridge.specs.declared.MapperType.{MapperType}
+use Rattle.cartridge.specs.declared.MapperType.the-variants.{Mmc1}
+use Rattle.cartridge.specs.declared.Mirroring.{Mirroring}
+use Rattle.places.specs.Places.{byteOf, answerAt, storedPrg, storedChr}
+use Rattle.places.specs.declared.Place.{Place}
+use Rattle.places.specs.declared.Place.the-variants.{Prg, Chr, PrgRam, ChrRam, Zero, Refused}
+use Rattle.mmc1.specs.Read as mmc1
+use Rattle.mmc1.specs.Write.{written}
+use Rattle.mmc1.specs.declared.Mmc1 as mmc1-type
+use Rattle.boards.specs.Range.{inRange, isLoaded, ramsFit, guarded}
+use Rattle.boards.specs.Read as reads
+use Rattle.boards.specs.Write.{writePlaceOn, writePlace, againstIn, nextMirroring, notice, turned, mmc1Written, movedOn, moved, writtenAs, landing}
+use Rattle.boards.specs.Clock as clocks
+use Rattle.boards.specs.Runs.{Lent, Call, Answer, next, answer, prgAfter, chrAfter, after, answers}
+use Rattle.boards.specs.Runs.Call.{read, write, clock}
+use Rattle.boards.specs.Runs.Answer.{toRead, toWrite, toClock}
+use Rattle.boards.specs.declared.Board.{Board}
+use Rattle.boards.specs.declared.ClockAnswer.the-variants.{No}
+use Rattle.boards.specs.declared.WriteAnswer.{WriteAnswer}
+use Rattle.boards.specs.declared.WriteAnswer.the-variants.{Refused as NotWritten}
+use Rattle.laws.specs.SettlesMmc1.{Agree}
+use Rattle.laws.proofs.Accepting.{loaded-alike}
+use Rattle.laws.proofs.Mmc1Moves.{move, asks, mmc1After, Common, by-move, next-common}
+
+-- where reads and writes land
+module _ (b : Board) (is-mmc1 : b .cart .mapper ≡ Mmc1) where
+  read-place : (a : ℕ) → reads.readPlace b a ≡ mmc1.readPlace (b .mmc1) (b .cart) a
+  unfolding reads.readPlace reads.readPlaceOn
+  read-place a = subst⁻¹ (λ (k : MapperType). reads.readPlaceOn k b a ≡ mmc1.readPlace (b .mmc1) (b .cart) a) is-mmc1 refl
+
+  write-place : (a : ℕ) → writePlace b a ≡ mmc1.writePlace (b .mmc1) (b .cart) a
+  unfolding writePlace writePlaceOn
+  write-place a = subst⁻¹ (λ (k : MapperType). writePlaceOn k b a ≡ mmc1.writePlace (b .mmc1) (b .cart) a) is-mmc1 refl
+
+-- the mirroring that a notice is compared with
+compared : Mode → Mirroring → Mirroring → Mirroring
+compared House headers now = headers
+compared OnBoard headers now = now
+
+against-is : (m : Mode) (b : Board) → againstIn m b ≡ compared m (b .cart .mirroring) (b .mirroring)
+unfolding againstIn compared
+against-is House b = refl
+against-is OnBoard b = refl
+
+moved-answer : (b : Board) → b .cart .mapper ≡ Mmc1 → (v a : ℕ)
+    → moved b v a .answer ≡ notice (compared (b .cart .mode) (b .cart .mirroring) (b .mirroring)) (written (b .cart .mode) (b .mmc1) v a .mirrors)
+unfolding moved movedOn mmc1Written turned
+moved-answer b e v a =
+    subst⁻¹ (λ (k : MapperType). movedOn k b v a .answer ≡ notice (compared (b .cart .mode) (b .cart .mirroring) (b .mirroring)) (written (b .cart .mode) (b .mmc1) v a .mirrors)) e
+    (ap (λ (s : Mirroring). notice s (written (b .cart .mode) (b .mmc1) v a .mirrors)) (against-is (b .cart .mode) _))
+
+-- a refusal, or the answer of the move
+said : Place → WriteAnswer → WriteAnswer
+said (Refused why) w = NotWritten why
+said (Prg i) w = w
+said (Chr i) w = w
+said (PrgRam i) w = w
+said (ChrRam i) w = w
+said Zero w = w
+
+said-is : (b : Board) (p : Place) (v a : ℕ) → writtenAs b p v a .answer ≡ said p (moved b v a .answer)
+unfolding writtenAs said
+said-is b (Refused why) v a = refl
+said-is b (Prg i) v a = refl
+said-is b (Chr i) v a = refl
+said-is b (PrgRam i) v a = refl
+said-is b (ChrRam i) v a = refl
+said-is b Zero v a = refl
+
+clock-answer : (b : Board) → inRange b ≡ true → b .cart .mapper ≡ Mmc1 → clocks.clock b .answer ≡ No
+unfolding clocks.clock clocks.ticked clocks.tickedOn clocks.unmoved
+clock-answer b ok e = rw ok (subst⁻¹ (λ (k : MapperType). clocks.tickedOn k b .answer ≡ No) e refl)
+
+-- two boards that agree
+pub record Alike (b d : Board) : Type 0 where
+  pub agree : Agree b d
+  pub is-mmc1 : b .cart .mapper ≡ Mmc1
+  pub first : inRange b ≡ true
+  pub second : inRange d ≡ true
+
+module _ {b d : Board} (r : Alike b d) where
+  cart : b .cart ≡ d .cart
+  cart = r .agree .cart
+
+  second-mmc1 : d .cart .mapper ≡ Mmc1
+  second-mmc1 = ap (λ (c : Cartridge). c .mapper) (sym cart) ∙ r .is-mmc1
+
+  common : Common b d
+  common =
+      record { cart = cart; is-mmc1 = r .is-mmc1; first = r .first; second = r .second; serial = ap (λ (m : mmc1-type.Mmc1). m .serial) (r .agree .mmc1) }
+
+  landing-alike : (l : Lent) (a : ℕ) → landing b (l .image) (l .prg) (l .chr) a ≡ landing d (l .image) (l .prg) (l .chr) a
+  unfolding landing
+  landing-alike l a =
+      ap₂ (guarded (ramsFit (length (l .prg)) (length (l .chr)))) (loaded-alike b d cart (r .first) (r .second) (length (l .image)))
+      (write-place b (r .is-mmc1) a ∙ ap₂ (λ (m : mmc1-type.Mmc1) (c : Cartridge). mmc1.writePlace m c a) (r .agree .mmc1) cart ∙ sym (write-place d second-mmc1 a))
+
+  answer-alike : (c : Call) → answer b c ≡ answer d c
+  unfolding answer reads.read
+  answer-alike (read l a) =
+      let place = read-place b (r .is-mmc1) a ∙ ap₂ (λ (m : mmc1-type.Mmc1) (c : Cartridge). mmc1.readPlace m c a) (r .agree .mmc1) cart ∙ sym (read-place d second-mmc1 a) in
+      let fits = loaded-alike b d cart (r .first) (r .second) (length (l .image)) in
+      λ i. toRead
+      (answerAt (guarded (ramsFit (length (l .prg)) (length (l .chr))) (fits i) (place i)) (byteOf (cart i) (place i) (l .image) (l .prg) (l .chr)))
+  answer-alike (write l a v) =
+      ap toWrite
+      (said-is b (landing b (l .image) (l .prg) (l .chr) a) v a
+      ∙ ap₂ said (landing-alike l a)
+      (moved-answer b (r .is-mmc1) v a
+      ∙ (λ i. notice (compared (cart i .mode) (cart i .mirroring) (r .agree .mirroring i)) (written (cart i .mode) (r .agree .mmc1 i) v a .mirrors))
+      ∙ sym (moved-answer d second-mmc1 v a))
+      ∙ sym (said-is d (landing d (l .image) (l .prg) (l .chr) a) v a))
+  answer-alike clock = ap toClock (clock-answer b (r .first) (r .is-mmc1) ∙ sym (clock-answer d (r .second) second-mmc1))
+
+  prg-alike : (c : Call) → prgAfter b c ≡ prgAfter d c
+  unfolding prgAfter
+  prg-alike (read l a) = refl
+  prg-alike (write l a v) = ap (λ (p : Place). storedPrg p v (l .prg)) (landing-alike l a)
+  prg-alike clock = refl
+
+  chr-alike : (c : Call) → chrAfter b c ≡ chrAfter d c
+  unfolding chrAfter
+  chr-alike (read l a) = refl
+  chr-alike (write l a v) = ap (λ (p : Place). storedChr p v (l .chr)) (landing-alike l a)
+  chr-alike clock = refl
+
+  next-alike : (c : Call) → Alike (next b c) (next d c)
+  next-alike c =
+      let n = next-common common c in
+      record {
+        agree = record {
+          cart = n .cart;
+          mirroring = by-move common (λ (x y : Board). x .mirroring ≡ y .mirroring) c (ap (λ (s : Mirroring). nextMirroring (b .cart .mode) s (asks (move b c))) (r .agree .mirroring));
+          mmc1 = by-move common (λ (x y : Board). x .mmc1 ≡ y .mmc1) c (ap (mmc1After (move b c) (b .cart .mode)) (r .agree .mmc1));
+        };
+        is-mmc1 = n .is-mmc1;
+        first = n .first;
+        second = n .second;
+      }
+
+pub after-alike : {b d : Board} → Alike b d → (cs : List Call) → Alike (after b cs) (after d cs)
+unfolding after
+after-alike r [] = r
+after-alike r (c ∷ cs) = after-alike (next-alike r c) cs
+
+pub answers-alike : {b d : Board} → Alike b d → (cs : List Call) → answers b cs ≡ answers d cs
+unfolding answers
+answers-alike r [] = refl
+answers-alike r (c ∷ cs) = ap₂ _∷_ (answer-alike r c) (answers-alike (next-alike r c) cs)
+
+pub prg-rams-alike : {b d : Board} → Alike b d → (cs : List Call) (c : Call) → prgAfter (after b cs) c ≡ prgAfter (after d cs) c
+prg-rams-alike r cs c = prg-alike (after-alike r cs) c
+
+pub chr-rams-alike : {b d : Board} → Alike b d → (cs : List Call) (c : Call) → chrAfter (after b cs) c ≡ chrAfter (after d cs) c
+chr-rams-alike r cs c = chr-alike (after-alike r cs) c
