@@ -6,6 +6,7 @@ mod Mmc1Ranges
 mod Mmc3Ranges
 mod Mmc1Moves
 mod Mmc1Answers
+mod Positions
 pub mod PLines
 pub mod Clocks
 pub mod PublicClocks
@@ -16,3 +17,4 @@ pub mod Useless
 pub mod Choices
 pub mod SettlesMmc3
 pub mod SettlesMmc1
+pub mod SettlesMmc1Met

@@ -44,7 +44,7 @@ pub data Move : Type 0 where
   fill : Register → ℕ → Move
 
 -- the move of an accepted write
-abbrev serialMove : Serial → ℕ → ℕ → Move
+abbrev pub serialMove : Serial → ℕ → ℕ → Move
 serialMove s v a =
     cond (ltb a 0x8000) stay
     (cond (isSigned v) clear

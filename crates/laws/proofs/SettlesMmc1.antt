@@ -3,11 +3,11 @@
 use Prim.Native.Nat.{ℕ, zero, suc, _+_, _≤_, _<_}
 use mathlib.Core.Path.{_≡_, refl, sym, ap, ap₂, _∙_, subst, subst⁻¹}
 use mathlib.Core.Bool.{Bool, true, false, cond, not, _&&_}
-use mathlib.Core.List.{List, [], _∷_, map}
-use native.Mathlib.Nat.{le-of-suc-le-suc}
+use mathlib.Core.List.{List, [], _∷_}
+use native.Mathlib.Numerals.{add-one}
 use native.Mathlib.Omega.{arith}
 use lib.Dec.{ltb, eqb}
-use lib.ListN.{length, replicate, getD, take, length-replicate}
+use lib.ListN.{take}
 use borrow.Author.Tests.{ltb-false, not-true, eqb-true}
 use Rattle.rules.proofs.Bools.{and-left, and-right, split-3}
 use Rattle.common.specs.Common.{isSigned}
@@ -20,97 +20,31 @@ use Rattle.cartridge.specs.declared.Mirroring.{Mirroring}
 use Rattle.cartridge.specs.declared.Mirroring.the-variants.{Horizontal, Vertical, SingleScreenUpper, SingleScreenLower}
 use Rattle.cartridge.specs.declared.MapperType.{MapperType}
 use Rattle.cartridge.specs.declared.MapperType.the-variants.{Mmc1}
-use Rattle.places.specs.declared.Place.{Place}
-use Rattle.mmc1.specs.Write.{shifted, empty, mirrorsOf}
-use Rattle.mmc1.specs.declared.Mmc1 as mmc1-type
+use Rattle.mmc1.specs.Write.{shifted, empty, registerAt, mirrorsOf}
 use Rattle.mmc1.specs.declared.Register.{Register}
 use Rattle.mmc1.specs.declared.Register.the-variants.{Control, Chr0, Chr1, Prg}
 use Rattle.mmc1.specs.declared.Serial.{Serial}
-use Rattle.boards.specs.Range.{inRange, screensFit, mirroringFits, registersFit, ramsFit, isLoaded, guarded}
-use Rattle.boards.specs.Write.{nextMirroring, writePlace, writtenAs, landing}
-use Rattle.boards.specs.Runs.{Lent, Call, next, after}
+use Rattle.boards.specs.Range.{inRange, screensFit, mirroringFits, registersFit}
+use Rattle.boards.specs.Start.{startOf}
+use Rattle.boards.specs.Write.{nextMirroring}
+use Rattle.boards.specs.Runs.{Lent, Call, next, prgAfter, chrAfter, after, answers}
 use Rattle.boards.specs.Runs.Call.{read, write, clock as tick}
 use Rattle.boards.specs.declared.Board.{Board}
-use Rattle.laws.specs.Loads.{Done, isAccepted, isSerial, completes, loads}
+use Rattle.laws.specs.Loads.{Done, isMmc1, isSerial, completes, loads}
 use Rattle.laws.specs.Loads.Done.{nothing, load}
 use Rattle.laws.specs.SettlesMmc3.{accepts}
-use Rattle.laws.specs.SettlesMmc1.{OneImage, Write, Clears, cleared, wipedLent, wiped, SameCalls, doneAt, isSerialWrite, serialWrites, bit4At, LoadsAt, Settled, Agree}
-use Rattle.laws.proofs.Mmc1Moves.{Move, move, serialAfter, prgModeAfter, chrModeAfter, chr0Stored, chr1Stored, chr0After, chr1After, bankAfter, asks, boardAfter, next-is, done, completes-is, Common, by-move, next-common, one-done}
+use Rattle.laws.specs.SettlesMmc1.{OneImage, Write, Clears, cleared, SameCalls, doneAt, isSerialWrite, serialWrites, bit4At, LoadsAt, Settled, Agree}
+use Rattle.laws.proofs.Positions.{same-after, same-loads, no-load, Kept, Makes, Any, once, twice}
+use Rattle.laws.proofs.Ranges.{next-in-range, next-keeps-cart, run-in-range, run-keeps-cart, start-in-range}
+use Rattle.laws.proofs.Mmc1Moves.{Move, move, serialMove, serialAfter, prgModeAfter, chrModeAfter, chr0Stored, chr1Stored, chr0After, chr1After, bankAfter, asks, boardAfter, next-is, done, completes-is, Common, by-move, next-common, one-done}
 use Rattle.laws.proofs.Mmc1Moves.Move.{stay, clear, enter, fill}
-
--- ---- the contents of lent buffers
--- a write is accepted by the lengths of what it is lent
-wiped-landing : (b : Board) (l : Lent) (a : ℕ) → landing b (wipedLent l .image) (wipedLent l .prg) (wipedLent l .chr) a ≡ landing b (l .image) (l .prg) (l .chr) a
-unfolding landing
-wiped-landing b l a = rw (length-replicate, length-replicate, length-replicate)
-
-wiped-next : (b : Board) (c : Call) → next b (wiped c) ≡ next b c
-unfolding next
-wiped-next b (read l a) = refl
-wiped-next b (write l a v) = ap (λ (p : Place). writtenAs b p v a .board) (wiped-landing b l a)
-wiped-next b tick = refl
-
-wiped-done : (b : Board) (c : Call) → completes b (wiped c) ≡ completes b c
-unfolding completes isSerial
-wiped-done b (read l a) = refl
-wiped-done b (write l a v) = rw (wiped-landing b l a)
-wiped-done b tick = refl
-
-wiped-after : (b : Board) (cs : List Call) → after b (map wiped cs) ≡ after b cs
-unfolding after
-wiped-after b [] = refl
-wiped-after b (c ∷ cs) = ap (λ (x : Board). after x (map wiped cs)) (wiped-next b c) ∙ wiped-after (next b c) cs
-
-wiped-loads : (b : Board) (cs : List Call) → loads b (map wiped cs) ≡ loads b cs
-unfolding loads
-wiped-loads b [] = refl
-wiped-loads b (c ∷ cs) =
-    ap₂ _∷_ (wiped-done b c) (ap (λ (x : Board). loads x (map wiped cs)) (wiped-next b c) ∙ wiped-loads (next b c) cs)
+use Rattle.laws.proofs.Mmc1Answers.{Alike, answers-alike, prg-rams-alike, chr-rams-alike}
 
 -- ---- the loads
 one-loads : {b d : Board} → Common b d → (cs : List Call) → loads b cs ≡ loads d cs
 unfolding loads
 one-loads r [] = refl
 one-loads r (c ∷ cs) = ap₂ _∷_ (one-done r c) (one-loads (next-common r c) cs)
-
--- ---- positions
-no-load : (r : Register) (v : ℕ) → nothing ≡ load r v → ⊥
-no-load r v e = let z : _≡_ {A = ℕ} 0 1 = cc in omega arith
-
--- a relation of two boards that every call keeps
-abbrev Kept : (Board → Board → Type 0) → Type 0
-Kept I = (b d : Board) → I b d → (c : Call) → I (next b c) (next d c)
-
-run : (I : Board → Board → Type 0) → Kept I → (b d : Board) → I b d → (cs : List Call) → I (after b cs) (after d cs)
-unfolding after
-run I keep b d p [] = p
-run I keep b d p (c ∷ cs) = run I keep (next b c) (next d c) (keep b d p c) cs
-
--- a load of a register, made while the first board is as X says, takes the two from I to J
-abbrev Makes : (I : Board → Board → Type 0) (X : Board → Type 0) (r : Register) (J : Board → Board → Type 0) → Type 0
-Makes I X r J = (b d : Board) → I b d → X b → (c : Call) (v : ℕ) → completes b c ≡ load r v → J (next b c) (next d c)
-
-module _ (I J : Board → Board → Type 0) (keep-I : Kept I) (keep-J : Kept J) (X : Board → Type 0) (r : Register) (makes : Makes I X r J) where
-  -- such a load at a position leaves J at the end
-  once : (b d : Board) → I b d → (cs : List Call) (i : ℕ) → LoadsAt b cs r i → X (after b (take i cs)) → J (after b cs) (after d cs)
-  unfolding after loads
-  once b d p [] i l x = absurd (no-load r (l .bits) (l .done))
-  once b d p (c ∷ cs) zero l x = run J keep-J (next b c) (next d c) (makes b d p x c (l .bits) (l .done)) cs
-  once b d p (c ∷ cs) (suc i) l x = once (next b c) (next d c) (keep-I b d p c) cs i (record { bits = l .bits; done = l .done }) x
-
-abbrev Any : Board → Type 0
-Any b = Unit {0}
-
--- one load at a position and another after it
-module _ (I J K : Board → Board → Type 0) (keep-I : Kept I) (keep-J : Kept J) (keep-K : Kept K) (X : Board → Type 0) (r s : Register) (makes-J : Makes I Any r J) (makes-K : Makes J X s K) where
-  twice : (b d : Board) → I b d → (cs : List Call) (i j : ℕ) → i < j → LoadsAt b cs r i → LoadsAt b cs s j → X (after b (take j cs)) → K (after b cs) (after d cs)
-  unfolding after loads
-  twice b d p [] i j h l k x = absurd (no-load r (l .bits) (l .done))
-  twice b d p (c ∷ cs) i zero h l k x = absurd (omega arith)
-  twice b d p (c ∷ cs) zero (suc j) h l k x =
-      once J K keep-J keep-K X s makes-K (next b c) (next d c) (makes-J b d p tt c (l .bits) (l .done)) cs j (record { bits = k .bits; done = k .done }) x
-  twice b d p (c ∷ cs) (suc i) (suc j) h l k x =
-      twice (next b c) (next d c) (keep-I b d p c) cs i j (le-of-suc-le-suc h) (record { bits = l .bits; done = l .done }) (record { bits = k .bits; done = k .done }) x
 
 -- ---- mirroring
 named : ℕ → Mirroring
@@ -297,3 +231,112 @@ emptied : (w : Write) (b : Board) → b .cart .mapper ≡ Mmc1 → Clears w b �
 emptied w b e p =
     ap (λ (x : Board). x .mmc1 .serial) (next-is b e (write (w .lent) (w .address) (w .byte)))
     ∙ ap (λ (k : Move). serialAfter k (b .mmc1 .serial)) (clear-move w b p)
+
+start-common : (b d : Board) → OneImage b d → (w u : Write) → Clears w b → Clears u d → Common (cleared w b) (cleared u d)
+start-common b d one w u p q =
+    let c = write (w .lent) (w .address) (w .byte) in
+    let e = write (u .lent) (u .address) (u .byte) in
+    record {
+      cart = next-keeps-cart b c ∙ one .cart ∙ sym (next-keeps-cart d e);
+      is-mmc1 = ap (λ (x : Cartridge). x .mapper) (next-keeps-cart b c) ∙ one .is-mmc1;
+      first = next-in-range b c (one .first);
+      second = next-in-range d e (one .second);
+      serial = emptied w b (one .is-mmc1) p ∙ sym (emptied u d (ap (λ (x : Cartridge). x .mapper) (sym (one .cart)) ∙ one .is-mmc1) q);
+    }
+
+-- ---- the fifth serial write
+counts : (p q r s : Bool) (x t : Serial) (w : Register) (v : ℕ) → t .count ≡ x .count + 1
+    → serialAfter (cond p (cond q stay (cond r clear (cond s (enter t) (fill w v)))) stay) x .count ≤ x .count + cond (p && not q && not r) 1 0
+counts false q r s x t w v e = omega arith
+counts true true r s x t w v e = omega arith
+counts true false true s x t w v e = omega arith
+counts true false false true x t w v e = omega arith
+counts true false false false x t w v e = omega arith
+
+-- a call counts up by one at most, and only as a serial write
+counted : (b : Board) → b .cart .mapper ≡ Mmc1 → (c : Call) → serialAfter (move b c) (b .mmc1 .serial) .count ≤ b .mmc1 .serial .count + cond (isSerialWrite b c) 1 0
+unfolding move isSerial isMmc1
+counted b e (read l a) = omega arith
+counted b e (write l a v) =
+    let s = b .mmc1 .serial in
+    subst⁻¹ (λ (k : MapperType). serialAfter (move b (write l a v)) s .count ≤ s .count + cond (isMmc1 k && accepts b l a && not (ltb a 0x8000) && not (isSigned v)) 1 0) e
+    (counts (accepts b l a) (ltb a 0x8000) (isSigned v) (ltb (s .count) 4) s (record { count = s .count + 1; value = shifted s v }) (registerAt a) (shifted s v) refl)
+counted b e tick = omega arith
+
+next-count : (b : Board) → b .cart .mapper ≡ Mmc1 → (c : Call) → next b c .mmc1 .serial .count ≤ b .mmc1 .serial .count + cond (isSerialWrite b c) 1 0
+next-count b e c = subst⁻¹ (λ (x : Board). x .mmc1 .serial .count ≤ b .mmc1 .serial .count + cond (isSerialWrite b c) 1 0) (next-is b e c) (counted b e c)
+
+chosen : (t : Bool) (w r : Register) (u v : ℕ) → cond t (load w u) nothing ≡ load r v → t ≡ true
+chosen true w r u v e = refl
+chosen false w r u v e = absurd (no-load r v e)
+
+-- what completes a load is a serial write, and four bits were there
+fifth : (b : Board) (c : Call) (r : Register) (v : ℕ) → completes b c ≡ load r v → (isSerialWrite b c ≡ true) × (4 ≤ b .mmc1 .serial .count)
+unfolding completes
+fifth b (read l a) r v e = absurd (no-load r v e)
+fifth b (write l a u) r v e =
+    let s = b .mmc1 .serial in
+    let t = chosen (isSerial b l a u && not (ltb (s .count) 4)) (registerAt a) r (shifted s u) v e in
+    (and-left (isSerial b l a u) (not (ltb (s .count) 4)) t, ltb-false (s .count) 4 (not-true (ltb (s .count) 4) (and-right (isSerial b l a u) (not (ltb (s .count) 4)) t)))
+fifth b tick r v e = absurd (no-load r v e)
+
+fifth-at : (b : Board) → b .cart .mapper ≡ Mmc1 → (cs : List Call) (i : ℕ) (r : Register) (v : ℕ) → doneAt b cs i ≡ load r v
+    → 5 ≤ b .mmc1 .serial .count + serialWrites b (take (suc i) cs)
+unfolding loads
+fifth-at b e [] i r v h = absurd (no-load r v h)
+fifth-at b e (c ∷ cs) zero r v h =
+    let f = fifth b c r v h in
+    rw (f .0) (omega (arith, f .1))
+fifth-at b e (c ∷ cs) (suc i) r v h =
+    omega (arith, next-count b e c, fifth-at (next b c) (ap (λ (x : Cartridge). x .mapper) (next-keeps-cart b c) ∙ e) cs i r v h)
+
+-- ---- demand 3
+-- boards of one cartridge after any two histories
+pub any-two-histories : (c : Cartridge) → couldLoad c ≡ true → c .mapper ≡ Mmc1 → (xs ys : List Call) → OneImage (after (startOf c) xs) (after (startOf c) ys)
+unfolding startOf
+any-two-histories c h e xs ys =
+    record {
+      cart = run-keeps-cart (startOf c) xs ∙ sym (run-keeps-cart (startOf c) ys);
+      is-mmc1 = ap (λ (x : Cartridge). x .mapper) (run-keeps-cart (startOf c) xs) ∙ e;
+      first = run-in-range (startOf c) xs (start-in-range c h);
+      second = run-in-range (startOf c) ys (start-in-range c h);
+    }
+
+module _ (b d : Board) (one : OneImage b d) (w u : Write) (p : Clears w b) (q : Clears u d) (cs ds : List Call) (same-calls : SameCalls cs ds) where
+  common : Common (cleared w b) (cleared u d)
+  common = start-common b d one w u p q
+
+  -- "The same writes complete loads, in the same registers, with the same five bits"
+  pub the-same-loads : loads (cleared w b) cs ≡ loads (cleared u d) ds
+  the-same-loads = one-loads common cs ∙ same-loads (cleared u d) cs ds same-calls
+
+  -- "and none before the fifth serial write"
+  pub none-before-the-fifth : (i : ℕ) (r : Register) (v : ℕ) → doneAt (cleared w b) cs i ≡ load r v → 5 ≤ serialWrites (cleared w b) (take (i + 1) cs)
+  none-before-the-fifth i r v e =
+      let none = ap (λ (s : Serial). s .count) (emptied w b (one .is-mmc1) p) in
+      rw (add-one i) (omega (arith, none, fifth-at (cleared w b) (common .is-mmc1) cs i r v e))
+
+  -- "Once there have been a control load, ..": "the boards agree in all that answers depend on"
+  pub the-boards-agree : Settled (cleared w b) cs → Agree (after (cleared w b) cs) (after (cleared u d) ds)
+  the-boards-agree s = subst (Agree (after (cleared w b) cs)) (same-after (cleared u d) cs ds same-calls) (settles (cleared w b) (cleared u d) common cs s)
+
+  module _ (s : Settled (cleared w b) cs) where
+    alike : Alike (after (cleared w b) cs) (after (cleared u d) ds)
+    alike =
+        record {
+          agree = the-boards-agree s;
+          is-mmc1 = ap (λ (x : Cartridge). x .mapper) (run-keeps-cart (cleared w b) cs) ∙ common .is-mmc1;
+          first = run-in-range (cleared w b) cs (common .first);
+          second = run-in-range (cleared u d) ds (common .second);
+        }
+
+    -- "with equal RAM bytes all later answers agree (reads with their refusals, notices, clocks)"
+    pub all-later-answers-agree : (later : List Call) → answers (after (cleared w b) cs) later ≡ answers (after (cleared u d) ds) later
+    all-later-answers-agree later = answers-alike alike later
+
+    -- and what a later call leaves in the RAMs is equal again
+    pub later-prg-rams-agree : (later : List Call) (c : Call) → prgAfter (after (after (cleared w b) cs) later) c ≡ prgAfter (after (after (cleared u d) ds) later) c
+    later-prg-rams-agree later c = prg-rams-alike alike later c
+
+    pub later-chr-rams-agree : (later : List Call) (c : Call) → chrAfter (after (after (cleared w b) cs) later) c ≡ chrAfter (after (after (cleared u d) ds) later) c
+    later-chr-rams-agree later c = chr-rams-alike alike later c

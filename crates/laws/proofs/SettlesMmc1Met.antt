@@ -1,0 +1,130 @@
+-- Two MMC1 boards that meet all that the theorems of `SettlesMmc1` ask, in each mode, and two runs that fall short by one hypothesis and leave the boards
+-- apart: each is computed. Assumes nothing.
+use Prim.Native.Nat.{ℕ, _/_, _%_}
+use mathlib.Core.Path.{_≡_, refl}
+use mathlib.Core.List.{List, [], _∷_, _++_}
+use native.Mathlib.Omega.{arith}
+use lib.ListN.{replicate}
+use Rattle.common.specs.declared.Mode.{Mode}
+use Rattle.common.specs.declared.Mode.the-variants.{House, Board as OnBoard}
+use Rattle.cartridge.specs.declared.Mirroring.{Mirroring}
+use Rattle.cartridge.specs.declared.Mirroring.the-variants.{Vertical, SingleScreenUpper}
+use Rattle.cartridge.specs.declared.Refusal.the-variants.{BankPastData}
+use Rattle.places.specs.declared.ReadAnswer.the-variants.{Byte, Refused}
+use Rattle.boards.specs.Write.{withMmc1, withMirroring}
+use Rattle.boards.specs.Runs.{Lent, Call, Answer, after, answers}
+use Rattle.boards.specs.Runs.Call.{read, write, clock}
+use Rattle.boards.specs.Runs.Answer.{toRead}
+use Rattle.boards.specs.declared.Board.{Board}
+use Rattle.laws.specs.PLines.{mmc1 as mmc1-image, ram, loadOf}
+use Rattle.laws.specs.SettlesMmc1.{OneImage, Write, Clears, cleared, SameCalls, LoadsAt, Settled}
+use Rattle.laws.proofs.Opened.{opened}
+
+-- buffers for one board, and of the same lengths for the other
+abbrev lent : Lent
+lent = record { image = mmc1-image; prg = ram; chr = ram }
+
+abbrev others : Lent
+others = record { image = mmc1-image; prg = replicate 8192 7; chr = replicate 8192 9 }
+
+-- a board as it is loaded, and one in the midst of a game, with three bits in its serial register
+abbrev fresh : Mode → Board
+fresh mode = loadOf mode mmc1-image .board
+
+-- only the real board can have left the header's mirroring
+abbrev turnedTo : Mode → Mirroring
+turnedTo House = Vertical
+turnedTo OnBoard = SingleScreenUpper
+
+abbrev used : Mode → Board
+used mode =
+    withMirroring
+    (withMmc1 (fresh mode) (record { serial = record { count = 3; value = 20 }; regs = record { prgmode = 2; chrmode = 1; chr0 = 3; chr1 = 6; prg = 9 } }))
+    (turnedTo mode)
+
+-- the bit 7 write, for each with its own buffers
+abbrev bit7 : Lent → Write
+bit7 l = record { lent = l; address = 0x9000; byte = 0x80 }
+
+-- five bits for one register
+abbrev five : Lent → ℕ → ℕ → List Call
+five l a v = write l a (v % 2) ∷ write l a (v / 2 % 2) ∷ write l a (v / 4 % 2) ∷ write l a (v / 8 % 2) ∷ write l a (v / 16) ∷ []
+
+-- a refused write, a read, a clock, then PRG 7, control 16, CHR 1 6 and CHR 0 5
+abbrev calls : Lent → List Call
+calls l =
+    write (record { image = l .image; prg = []; chr = l .chr }) 0x8000 1
+    ∷ read l 0x8000
+    ∷ clock
+    ∷ five l 0xE000 7
+    ++ five l 0x8000 16
+    ++ five l 0xC000 6
+    ++ five l 0xA000 5
+
+pub met-image : (mode : Mode) → OneImage (fresh mode) (used mode)
+unfolding opened
+met-image House = record { cart = refl; is-mmc1 = refl; first = refl; second = refl }
+met-image OnBoard = record { cart = refl; is-mmc1 = refl; first = refl; second = refl }
+
+pub met-fresh : (mode : Mode) → Clears (bit7 lent) (fresh mode)
+unfolding opened
+met-fresh House = record { to-8000-FFFF = refl; bit-7 = refl; accepted = refl }
+met-fresh OnBoard = record { to-8000-FFFF = refl; bit-7 = refl; accepted = refl }
+
+pub met-used : (mode : Mode) → Clears (bit7 others) (used mode)
+unfolding opened
+met-used House = record { to-8000-FFFF = refl; bit-7 = refl; accepted = refl }
+met-used OnBoard = record { to-8000-FFFF = refl; bit-7 = refl; accepted = refl }
+
+pub met-calls : SameCalls (calls lent) (calls others)
+met-calls = refl
+
+abbrev Met : Mode → Type 0
+Met mode = Settled (cleared (bit7 lent) (fresh mode)) (calls lent)
+
+pub met-settled : (mode : Mode) → Met mode
+unfolding opened
+met-settled House =
+    record {
+      control = 12;
+      chr0 = 22;
+      chr1 = 17;
+      prg = 7;
+      control-load = record { bits = 16; done = refl };
+      chr0-load = record { bits = 5; done = refl };
+      chr1-load = record { bits = 6; done = refl };
+      prg-load = record { bits = 7; done = refl };
+      chr0-after-it = omega arith;
+      chr1-after-it = omega arith;
+      while-bit-4-is-set = refl;
+    }
+met-settled OnBoard =
+    record {
+      control = 12;
+      chr0 = 22;
+      chr1 = 17;
+      prg = 7;
+      control-load = record { bits = 16; done = refl };
+      chr0-load = record { bits = 5; done = refl };
+      chr1-load = record { bits = 6; done = refl };
+      prg-load = record { bits = 7; done = refl };
+      chr0-after-it = omega arith;
+      chr1-after-it = omega arith;
+      while-bit-4-is-set = refl;
+    }
+
+-- what the two boards of house mode answer to a read after the bit 7 write and a run
+abbrev apart : List Call → ℕ → Answer → Answer → Type 0
+apart cs a x y =
+    (answers (after (cleared (bit7 lent) (fresh House)) cs) (read lent a ∷ []) ≡ x ∷ [])
+    × (answers (after (cleared (bit7 lent) (used House)) cs) (read lent a ∷ []) ≡ y ∷ [])
+
+-- a CHR 0 load before the control load, and all else as asked
+pub chr0-before-the-control-load : apart (five lent 0xA000 2 ++ five lent 0x8000 16 ++ five lent 0xC000 0 ++ five lent 0xE000 0) 0x0000 (toRead (Byte 0)) (toRead (Refused BankPastData))
+unfolding opened
+chr0-before-the-control-load = (refl, refl)
+
+-- a CHR 1 load in 8 KB mode, and all else as asked; a second control load shows CHR 1
+pub chr1-in-8-KB-mode : apart (five lent 0x8000 0 ++ five lent 0xA000 0 ++ five lent 0xC000 1 ++ five lent 0xE000 0 ++ five lent 0x8000 16) 0x1000 (toRead (Byte 0)) (toRead (Refused BankPastData))
+unfolding opened
+chr1-in-8-KB-mode = (refl, refl)
