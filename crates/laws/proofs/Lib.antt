@@ -18,3 +18,4 @@ pub mod Choices
 pub mod SettlesMmc3
 pub mod SettlesMmc1
 pub mod SettlesMmc1Met
+pub mod ControlBit4

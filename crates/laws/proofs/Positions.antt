@@ -14,8 +14,9 @@ use Rattle.boards.specs.Runs.{Lent, Call, next, after}
 use Rattle.boards.specs.Runs.Call.{read, write, clock as tick}
 use Rattle.boards.specs.declared.Board.{Board}
 use Rattle.laws.specs.Loads.{isSerial, completes, loads}
-use Rattle.laws.specs.Loads.Done.{nothing, load}
+use Rattle.laws.specs.Loads.Done.{load}
 use Rattle.laws.specs.SettlesMmc1.{wipedLent, wiped, SameCalls, LoadsAt}
+use Rattle.laws.proofs.Mmc1Moves.{no-load}
 
 -- a write is accepted by the lengths of what it is lent
 wiped-landing : (b : Board) (l : Lent) (a : ℕ) → landing b (wipedLent l .image) (wipedLent l .prg) (wipedLent l .chr) a ≡ landing b (l .image) (l .prg) (l .chr) a
@@ -55,9 +56,6 @@ same-after b cs ds same = sym (wiped-after b cs) ∙ ap (after b) same ∙ wiped
 
 pub same-loads : (b : Board) (cs ds : List Call) → SameCalls cs ds → loads b cs ≡ loads b ds
 same-loads b cs ds same = sym (wiped-loads b cs) ∙ ap (loads b) same ∙ wiped-loads b ds
-
-pub no-load : (r : Register) (v : ℕ) → nothing ≡ load r v → ⊥
-no-load r v e = let z : _≡_ {A = ℕ} 0 1 = cc in omega arith
 
 -- a relation of two boards that every call keeps
 abbrev pub Kept : (Board → Board → Type 0) → Type 0

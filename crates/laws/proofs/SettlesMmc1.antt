@@ -8,7 +8,7 @@ use native.Mathlib.Numerals.{add-one}
 use native.Mathlib.Omega.{arith}
 use lib.Dec.{ltb, eqb}
 use lib.ListN.{take}
-use borrow.Author.Tests.{ltb-false, not-true, eqb-true}
+use borrow.Author.Tests.{ltb-false, le-ltb, not-true, eqb-true}
 use Rattle.rules.proofs.Bools.{and-left, and-right, split-3}
 use Rattle.common.specs.Common.{isSigned}
 use Rattle.common.specs.declared.Mode.{Mode}
@@ -33,10 +33,10 @@ use Rattle.boards.specs.declared.Board.{Board}
 use Rattle.laws.specs.Loads.{Done, isMmc1, isSerial, completes, loads}
 use Rattle.laws.specs.Loads.Done.{nothing, load}
 use Rattle.laws.specs.SettlesMmc3.{accepts}
-use Rattle.laws.specs.SettlesMmc1.{OneImage, Write, Clears, cleared, SameCalls, doneAt, isSerialWrite, serialWrites, bit4At, LoadsAt, Settled, Agree}
-use Rattle.laws.proofs.Positions.{same-after, same-loads, no-load, Kept, Makes, Any, once, twice}
+use Rattle.laws.specs.SettlesMmc1.{OneImage, Write, Clears, cleared, SameCalls, doneAt, isSerialWrite, serialWrites, bit4At, LoadsAt, Settled, Agree, Settles}
+use Rattle.laws.proofs.Positions.{same-after, same-loads, Kept, Makes, Any, once, twice}
 use Rattle.laws.proofs.Ranges.{next-in-range, next-keeps-cart, run-in-range, run-keeps-cart, start-in-range}
-use Rattle.laws.proofs.Mmc1Moves.{Move, move, serialMove, serialAfter, prgModeAfter, chrModeAfter, chr0Stored, chr1Stored, chr0After, chr1After, bankAfter, asks, boardAfter, next-is, done, completes-is, Common, by-move, next-common, one-done}
+use Rattle.laws.proofs.Mmc1Moves.{Move, no-load, filled, move, serialMove, serialAfter, prgModeAfter, chrModeAfter, chr0Stored, chr1Stored, chr0After, chr1After, bankAfter, asks, boardAfter, next-is, done, completes-is, Common, by-move, next-common, one-done}
 use Rattle.laws.proofs.Mmc1Moves.Move.{stay, clear, enter, fill}
 use Rattle.laws.proofs.Mmc1Answers.{Alike, answers-alike, prg-rams-alike, chr-rams-alike}
 
@@ -128,13 +128,6 @@ keep-program b d r c =
       prg = by-move (r .common) (λ (x y : Board). x .mmc1 .regs .prg ≡ y .mmc1 .regs .prg) c (ap (bankAfter (move b c)) (r .prg));
     }
 
--- a completed load is the move that fills its register
-filled : (k : Move) (w : Register) (v : ℕ) → done k ≡ load w v → k ≡ fill w v
-filled stay w v e = absurd (no-load w v e)
-filled clear w v e = absurd (no-load w v e)
-filled (enter t) w v e = absurd (no-load w v e)
-filled (fill r u) w v e = cc
-
 module _ {b d : Board} (r : Common b d) (w : Register) (c : Call) (v : ℕ) (e : completes b c ≡ load w v) where
   by-load : (Q : Board → Board → Type 0) → Q (boardAfter (fill w v) (b .cart .mode) b) (boardAfter (fill w v) (b .cart .mode) d) → Q (next b c) (next d c)
   by-load Q h =
@@ -225,7 +218,7 @@ settles b d r cs s =
 -- ---- the bit 7 write
 clear-move : (w : Write) (b : Board) → Clears w b → move b (write (w .lent) (w .address) (w .byte)) ≡ clear
 unfolding move
-clear-move w b p = rw (move, p .accepted, p .to-8000-FFFF, p .bit-7) refl
+clear-move w b p = rw (move, p .accepted, le-ltb (w .address) 0x8000 (p .to-8000-FFFF), p .bit-7) refl
 
 emptied : (w : Write) (b : Board) → b .cart .mapper ≡ Mmc1 → Clears w b → cleared w b .mmc1 .serial ≡ empty
 emptied w b e p =
@@ -302,41 +295,32 @@ any-two-histories c h e xs ys =
       second = run-in-range (startOf c) ys (start-in-range c h);
     }
 
-module _ (b d : Board) (one : OneImage b d) (w u : Write) (p : Clears w b) (q : Clears u d) (cs ds : List Call) (same-calls : SameCalls cs ds) where
-  common : Common (cleared w b) (cleared u d)
-  common = start-common b d one w u p q
+-- two boards of one image, cleared by bit 7 writes that they accept, and the same calls
+pub mmc1-settles : (b d : Board) → OneImage b d → (w u : Write) → Clears w b → Clears u d → (cs ds : List Call) → SameCalls cs ds
+    → Settles (cleared w b) (cleared u d) cs ds
+mmc1-settles b d one w u p q cs ds same-calls =
+    record {
+      the-same-loads = one-loads common cs ∙ same-loads (cleared u d) cs ds same-calls;
+      none-before-the-fifth = λ i r l.
+          rw (add-one i)
+          (omega (arith, ap (λ (s : Serial). s .count) (emptied w b (one .is-mmc1) p), fifth-at (cleared w b) (common .is-mmc1) cs i r (l .bits) (l .done)));
+      the-boards-agree = agree;
+      later-answers-agree = λ s later. answers-alike (alike s) later;
+      later-prg-rams-agree = λ s later c. prg-rams-alike (alike s) later c;
+      later-chr-rams-agree = λ s later c. chr-rams-alike (alike s) later c;
+    }
+  where
+    common : Common (cleared w b) (cleared u d)
+    common = start-common b d one w u p q
 
-  -- "The same writes complete loads, in the same registers, with the same five bits"
-  pub the-same-loads : loads (cleared w b) cs ≡ loads (cleared u d) ds
-  the-same-loads = one-loads common cs ∙ same-loads (cleared u d) cs ds same-calls
+    agree : Settled (cleared w b) cs → Agree (after (cleared w b) cs) (after (cleared u d) ds)
+    agree s = subst (Agree (after (cleared w b) cs)) (same-after (cleared u d) cs ds same-calls) (settles (cleared w b) (cleared u d) common cs s)
 
-  -- "and none before the fifth serial write"
-  pub none-before-the-fifth : (i : ℕ) (r : Register) (v : ℕ) → doneAt (cleared w b) cs i ≡ load r v → 5 ≤ serialWrites (cleared w b) (take (i + 1) cs)
-  none-before-the-fifth i r v e =
-      let none = ap (λ (s : Serial). s .count) (emptied w b (one .is-mmc1) p) in
-      rw (add-one i) (omega (arith, none, fifth-at (cleared w b) (common .is-mmc1) cs i r v e))
-
-  -- "Once there have been a control load, ..": "the boards agree in all that answers depend on"
-  pub the-boards-agree : Settled (cleared w b) cs → Agree (after (cleared w b) cs) (after (cleared u d) ds)
-  the-boards-agree s = subst (Agree (after (cleared w b) cs)) (same-after (cleared u d) cs ds same-calls) (settles (cleared w b) (cleared u d) common cs s)
-
-  module _ (s : Settled (cleared w b) cs) where
-    alike : Alike (after (cleared w b) cs) (after (cleared u d) ds)
-    alike =
+    alike : Settled (cleared w b) cs → Alike (after (cleared w b) cs) (after (cleared u d) ds)
+    alike s =
         record {
-          agree = the-boards-agree s;
+          agree = agree s;
           is-mmc1 = ap (λ (x : Cartridge). x .mapper) (run-keeps-cart (cleared w b) cs) ∙ common .is-mmc1;
           first = run-in-range (cleared w b) cs (common .first);
           second = run-in-range (cleared u d) ds (common .second);
         }
-
-    -- "with equal RAM bytes all later answers agree (reads with their refusals, notices, clocks)"
-    pub all-later-answers-agree : (later : List Call) → answers (after (cleared w b) cs) later ≡ answers (after (cleared u d) ds) later
-    all-later-answers-agree later = answers-alike alike later
-
-    -- and what a later call leaves in the RAMs is equal again
-    pub later-prg-rams-agree : (later : List Call) (c : Call) → prgAfter (after (after (cleared w b) cs) later) c ≡ prgAfter (after (after (cleared u d) ds) later) c
-    later-prg-rams-agree later c = prg-rams-alike alike later c
-
-    pub later-chr-rams-agree : (later : List Call) (c : Call) → chrAfter (after (after (cleared w b) cs) later) c ≡ chrAfter (after (after (cleared u d) ds) later) c
-    later-chr-rams-agree later c = chr-rams-alike alike later c

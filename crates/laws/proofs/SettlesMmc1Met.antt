@@ -17,7 +17,8 @@ use Rattle.boards.specs.Runs.Call.{read, write, clock}
 use Rattle.boards.specs.Runs.Answer.{toRead}
 use Rattle.boards.specs.declared.Board.{Board}
 use Rattle.laws.specs.PLines.{mmc1 as mmc1-image, ram, loadOf}
-use Rattle.laws.specs.SettlesMmc1.{OneImage, Write, Clears, cleared, SameCalls, LoadsAt, Settled}
+use Rattle.laws.specs.SettlesMmc1.{OneImage, Write, Clears, cleared, SameCalls, LoadsAt, Settled, Agree}
+use Rattle.laws.proofs.SettlesMmc1.{mmc1-settles}
 use Rattle.laws.proofs.Opened.{opened}
 
 -- buffers for one board, and of the same lengths for the other
@@ -68,13 +69,13 @@ met-image OnBoard = record { cart = refl; is-mmc1 = refl; first = refl; second =
 
 pub met-fresh : (mode : Mode) → Clears (bit7 lent) (fresh mode)
 unfolding opened
-met-fresh House = record { to-8000-FFFF = refl; bit-7 = refl; accepted = refl }
-met-fresh OnBoard = record { to-8000-FFFF = refl; bit-7 = refl; accepted = refl }
+met-fresh House = record { to-8000-FFFF = omega arith; bit-7 = refl; accepted = refl }
+met-fresh OnBoard = record { to-8000-FFFF = omega arith; bit-7 = refl; accepted = refl }
 
 pub met-used : (mode : Mode) → Clears (bit7 others) (used mode)
 unfolding opened
-met-used House = record { to-8000-FFFF = refl; bit-7 = refl; accepted = refl }
-met-used OnBoard = record { to-8000-FFFF = refl; bit-7 = refl; accepted = refl }
+met-used House = record { to-8000-FFFF = omega arith; bit-7 = refl; accepted = refl }
+met-used OnBoard = record { to-8000-FFFF = omega arith; bit-7 = refl; accepted = refl }
 
 pub met-calls : SameCalls (calls lent) (calls others)
 met-calls = refl
@@ -112,6 +113,12 @@ met-settled OnBoard =
       chr1-after-it = omega arith;
       while-bit-4-is-set = refl;
     }
+
+-- so the two agree
+pub met : (mode : Mode) → Agree (after (cleared (bit7 lent) (fresh mode)) (calls lent)) (after (cleared (bit7 others) (used mode)) (calls others))
+met mode =
+    mmc1-settles (fresh mode) (used mode) (met-image mode) (bit7 lent) (bit7 others) (met-fresh mode) (met-used mode) (calls lent) (calls others) met-calls
+    .the-boards-agree (met-settled mode)
 
 -- what the two boards of house mode answer to a read after the bit 7 write and a run
 abbrev apart : List Call → ℕ → Answer → Answer → Type 0

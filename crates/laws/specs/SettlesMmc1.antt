@@ -1,16 +1,15 @@
 -- Demand 3, MMC1: two boards of one image and mode accept a bit 7 write and then get the same calls; which loads are the same, and when the boards agree.
-use Prim.Native.Nat.{ℕ, _+_, _<_}
+use Prim.Native.Nat.{ℕ, _+_, _≤_, _<_}
 use mathlib.Core.Path.{_≡_}
 use mathlib.Core.Bool.{Bool, true, false, cond}
 use mathlib.Core.List.{List, [], _∷_, map}
-use lib.Dec.{ltb}
 use lib.ListN.{length, replicate, getD, take}
 use Rattle.common.specs.Common.{isSigned}
 use Rattle.cartridge.specs.declared.MapperType.the-variants.{Mmc1}
 use Rattle.mmc1.specs.declared.Register.{Register}
 use Rattle.mmc1.specs.declared.Register.the-variants.{Control, Chr0, Chr1, Prg}
 use Rattle.boards.specs.Range.{inRange}
-use Rattle.boards.specs.Runs.{Lent, Call, next, after}
+use Rattle.boards.specs.Runs.{Lent, Call, next, prgAfter, chrAfter, after, answers}
 use Rattle.boards.specs.Runs.Call.{read, write, clock}
 use Rattle.boards.specs.declared.Board.{Board}
 use Rattle.laws.specs.Loads.{Done, isSerial, loads}
@@ -32,7 +31,7 @@ pub record Write : Type 0 where
 
 -- the board accepts it, and it is "a write with bit 7 set to 8000-FFFF"
 pub record Clears (w : Write) (b : Board) : Type 0 where
-  pub to-8000-FFFF : ltb (w .address) 0x8000 ≡ false
+  pub to-8000-FFFF : 0x8000 ≤ w .address
   pub bit-7 : isSigned (w .byte) ≡ true
   pub accepted : accepts b (w .lent) (w .address) ≡ true
 
@@ -96,3 +95,17 @@ pub record Agree (b d : Board) : Type 0 where
   pub cart : b .cart ≡ d .cart
   pub mirroring : b .mirroring ≡ d .mirroring
   pub mmc1 : b .mmc1 ≡ d .mmc1
+
+-- what demand 3 says of two boards that a bit 7 write has cleared, and of the calls that they get
+pub record Settles (b d : Board) (cs ds : List Call) : Type 0 where
+  -- "The same writes complete loads, in the same registers, with the same five bits,
+  pub the-same-loads : loads b cs ≡ loads d ds
+  -- and none before the fifth serial write": up to and with the one that completes there are five
+  pub none-before-the-fifth : (i : ℕ) (r : Register) → LoadsAt b cs r i → 5 ≤ serialWrites b (take (i + 1) cs)
+  -- "Once there have been .., the boards agree in all that answers depend on,
+  pub the-boards-agree : Settled b cs → Agree (after b cs) (after d ds)
+  -- so with equal RAM bytes all later answers agree (reads with their refusals, notices, clocks)"
+  pub later-answers-agree : Settled b cs → (later : List Call) → answers (after b cs) later ≡ answers (after d ds) later
+  -- and the RAM bytes stay equal: what each later call leaves
+  pub later-prg-rams-agree : Settled b cs → (later : List Call) (c : Call) → prgAfter (after (after b cs) later) c ≡ prgAfter (after (after d ds) later) c
+  pub later-chr-rams-agree : Settled b cs → (later : List Call) (c : Call) → chrAfter (after (after b cs) later) c ≡ chrAfter (after (after d ds) later) c
