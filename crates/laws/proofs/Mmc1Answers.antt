@@ -2,7 +2,7 @@
 -- for ever. Assumes nothing.
 use Prim.Native.Nat.{ℕ}
 use mathlib.Core.Path.{_≡_, refl, sym, ap, ap₂, _∙_, subst⁻¹}
-use mathlib.Core.Bool.{Bool, true, false, cond}
+use mathlib.Core.Bool.{true}
 use mathlib.Core.List.{List, [], _∷_}
 use lib.ListN.{length}
 use Rattle.common.specs.declared.Mode.{Mode}
@@ -17,11 +17,11 @@ use Rattle.places.specs.declared.Place.the-variants.{Prg, Chr, PrgRam, ChrRam, 
 use Rattle.mmc1.specs.Read as mmc1
 use Rattle.mmc1.specs.Write.{written}
 use Rattle.mmc1.specs.declared.Mmc1 as mmc1-type
-use Rattle.boards.specs.Range.{inRange, isLoaded, ramsFit, guarded}
+use Rattle.boards.specs.Range.{inRange, ramsFit, guarded}
 use Rattle.boards.specs.Read as reads
 use Rattle.boards.specs.Write.{writePlaceOn, writePlace, againstIn, nextMirroring, notice, turned, mmc1Written, movedOn, moved, writtenAs, landing}
 use Rattle.boards.specs.Clock as clocks
-use Rattle.boards.specs.Runs.{Lent, Call, Answer, next, answer, prgAfter, chrAfter, after, answers}
+use Rattle.boards.specs.Runs.{Lent, Call, next, answer, prgAfter, chrAfter, after, answers}
 use Rattle.boards.specs.Runs.Call.{read, write, clock}
 use Rattle.boards.specs.Runs.Answer.{toRead, toWrite, toClock}
 use Rattle.boards.specs.declared.Board.{Board}

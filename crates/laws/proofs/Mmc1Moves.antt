@@ -1,12 +1,10 @@
 -- On an MMC1 board a call is one of four moves, chosen by the serial register and by whether the write is accepted; each register then moves by itself.
 -- Assumes nothing.
 use Prim.Native.Nat.{ℕ, _+_, _/_, _%_}
-use mathlib.Core.Path.{_≡_, refl, sym, ap, ap₂, _∙_, subst, subst₂, subst⁻¹}
+use mathlib.Core.Path.{_≡_, refl, sym, ap, ap₂, _∙_, subst₂, subst⁻¹}
 use mathlib.Core.Bool.{Bool, true, false, cond, not, _&&_}
-use mathlib.Core.List.{List, [], _∷_, map}
 use native.Mathlib.Omega.{arith}
 use lib.Dec.{ltb, eqb}
-use lib.ListN.{length, replicate}
 use Rattle.common.specs.Common.{isSigned}
 use Rattle.common.specs.declared.Mode.{Mode}
 use Rattle.common.specs.declared.Mode.the-variants.{House, Board as OnBoard}
@@ -14,7 +12,7 @@ use Rattle.cartridge.specs.declared.Cartridge.{Cartridge}
 use Rattle.cartridge.specs.declared.MapperType.{MapperType}
 use Rattle.cartridge.specs.declared.MapperType.the-variants.{Mmc1}
 use Rattle.cartridge.specs.declared.Mirrors.{Mirrors}
-use Rattle.cartridge.specs.declared.Mirrors.the-variants.{AsBefore, As}
+use Rattle.cartridge.specs.declared.Mirrors.the-variants.{AsBefore}
 use Rattle.mmc1.specs.Read as mmc1
 use Rattle.mmc1.specs.Write.{shifted, empty, registerAt, mirrorsOf, houseChr0, houseChr1, houseLoad, boardLoad, load as loadIn, reset, kept, resetAll, entered, completed, shiftedIn, serialWrite, written}
 use Rattle.mmc1.specs.declared.Mmc1 as mmc1-type
@@ -26,7 +24,7 @@ use Rattle.mmc1.specs.declared.Wrote.{Wrote}
 use Rattle.boards.specs.Range.{inRange}
 use Rattle.boards.specs.Write.{writePlaceOn, writePlace, nextMirroring, turned, mmc1Written, movedOn, moved, landing}
 use Rattle.boards.specs.Clock.{tickedOn, ticked, clock, unmoved}
-use Rattle.boards.specs.Runs.{Lent, Call, next}
+use Rattle.boards.specs.Runs.{Call, next}
 use Rattle.boards.specs.Runs.Call.{read, write, clock as tick}
 use Rattle.boards.specs.declared.Board.{Board}
 use Rattle.boards.specs.declared.Clocked.{Clocked}

@@ -1,6 +1,6 @@
 -- Two MMC1 boards with one serial register make the same moves. A control load makes their modes one; from then on a CHR 0 load stores one value,
 -- and so does a CHR 1 load in 4 KB mode, and a PRG load always; what is one stays one under the same moves. Assumes nothing.
-use Prim.Native.Nat.{ℕ, zero, suc, _+_, _≤_, _<_}
+use Prim.Native.Nat.{ℕ, zero, suc, _+_, _≤_}
 use mathlib.Core.Path.{_≡_, refl, sym, ap, ap₂, _∙_, subst, subst⁻¹}
 use mathlib.Core.Bool.{Bool, true, false, cond, not, _&&_}
 use mathlib.Core.List.{List, [], _∷_}
@@ -27,16 +27,16 @@ use Rattle.mmc1.specs.declared.Serial.{Serial}
 use Rattle.boards.specs.Range.{inRange, screensFit, mirroringFits, registersFit}
 use Rattle.boards.specs.Start.{startOf}
 use Rattle.boards.specs.Write.{nextMirroring}
-use Rattle.boards.specs.Runs.{Lent, Call, next, prgAfter, chrAfter, after, answers}
+use Rattle.boards.specs.Runs.{Lent, Call, next, after}
 use Rattle.boards.specs.Runs.Call.{read, write, clock as tick}
 use Rattle.boards.specs.declared.Board.{Board}
 use Rattle.laws.specs.Loads.{Done, isMmc1, isSerial, completes, loads}
 use Rattle.laws.specs.Loads.Done.{nothing, load}
 use Rattle.laws.specs.SettlesMmc3.{accepts}
-use Rattle.laws.specs.SettlesMmc1.{OneImage, Write, Clears, cleared, SameCalls, doneAt, isSerialWrite, serialWrites, bit4At, LoadsAt, Settled, Agree, Settles}
+use Rattle.laws.specs.SettlesMmc1.{OneImage, Write, Clears, cleared, SameCalls, doneAt, isSerialWrite, serialWrites, Settled, Agree, Settles}
 use Rattle.laws.proofs.Positions.{same-after, same-loads, Kept, Makes, Any, once, twice}
 use Rattle.laws.proofs.Ranges.{next-in-range, next-keeps-cart, run-in-range, run-keeps-cart, start-in-range}
-use Rattle.laws.proofs.Mmc1Moves.{Move, no-load, filled, move, serialMove, serialAfter, prgModeAfter, chrModeAfter, chr0Stored, chr1Stored, chr0After, chr1After, bankAfter, asks, boardAfter, next-is, done, completes-is, Common, by-move, next-common, one-done}
+use Rattle.laws.proofs.Mmc1Moves.{Move, no-load, filled, move, serialAfter, prgModeAfter, chrModeAfter, chr0Stored, chr1Stored, chr0After, chr1After, bankAfter, asks, boardAfter, next-is, done, completes-is, Common, by-move, next-common, one-done}
 use Rattle.laws.proofs.Mmc1Moves.Move.{stay, clear, enter, fill}
 use Rattle.laws.proofs.Mmc1Answers.{Alike, answers-alike, prg-rams-alike, chr-rams-alike}
 
@@ -282,6 +282,16 @@ fifth-at b e (c ∷ cs) zero r v h =
     rw (f .0) (omega (arith, f .1))
 fifth-at b e (c ∷ cs) (suc i) r v h =
     omega (arith, next-count b e c, fifth-at (next b c) (ap (λ (x : Cartridge). x .mapper) (next-keeps-cart b c) ∙ e) cs i r v h)
+
+-- ---- refused writes
+off : (k p q r s : Bool) (x : Done) → p ≡ false → cond ((k && p && q && r) && s) x nothing ≡ nothing
+off true p q r s x e = rw e refl
+off false p q r s x e = refl
+
+pub a-refused-write-completes-nothing : (b : Board) (l : Lent) (a v : ℕ) → accepts b l a ≡ false → completes b (write l a v) ≡ nothing
+unfolding completes isSerial
+a-refused-write-completes-nothing b l a v e =
+    off (isMmc1 (b .cart .mapper)) (accepts b l a) (not (ltb a 0x8000)) (not (isSigned v)) (not (ltb (b .mmc1 .serial .count) 4)) (load (registerAt a) (shifted (b .mmc1 .serial) v)) e
 
 -- ---- demand 3
 -- boards of one cartridge after any two histories

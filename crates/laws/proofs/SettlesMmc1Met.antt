@@ -17,7 +17,7 @@ use Rattle.boards.specs.Runs.Call.{read, write, clock}
 use Rattle.boards.specs.Runs.Answer.{toRead}
 use Rattle.boards.specs.declared.Board.{Board}
 use Rattle.laws.specs.PLines.{mmc1 as mmc1-image, ram, loadOf}
-use Rattle.laws.specs.SettlesMmc1.{OneImage, Write, Clears, cleared, SameCalls, LoadsAt, Settled, Agree}
+use Rattle.laws.specs.SettlesMmc1.{OneImage, Write, Clears, cleared, SameCalls, Settled, Agree}
 use Rattle.laws.proofs.SettlesMmc1.{mmc1-settles}
 use Rattle.laws.proofs.Opened.{opened}
 

@@ -1,12 +1,12 @@
 -- The interrupt unit moves by itself: what a call makes of it, and whether a write is refused, depends on the unit and not on the banks.
 -- Latch, reload, enable and clock leave one unit whatever it was, so from there on two boards have the same one. Assumes nothing.
-use Prim.Native.Nat.{ℕ, _-_, _%_, _≤_, _<_}
+use Prim.Native.Nat.{ℕ, _-_, _%_, _≤_}
 use mathlib.Core.Path.{_≡_, refl, sym, ap, _∙_, subst, subst⁻¹}
 use mathlib.Core.Bool.{Bool, true, false, cond, not, _&&_}
 use mathlib.Core.List.{List, [], _∷_}
 use native.Mathlib.Omega.{arith}
 use lib.Dec.{ltb, eqb}
-use borrow.Author.Tests.{ltb-true, ltb-false, not-true, le-ltb}
+use borrow.Author.Tests.{ltb-false, not-true, le-ltb}
 use Rattle.rules.proofs.Bools.{and-left, and-right, split-3}
 use Rattle.common.specs.declared.Mode.{Mode}
 use Rattle.common.specs.declared.Mode.the-variants.{House, Board as OnBoard}
@@ -14,7 +14,6 @@ use Rattle.cartridge.specs.declared.Cartridge.{Cartridge}
 use Rattle.cartridge.specs.declared.Refusal.the-variants.{IrqPending}
 use Rattle.cartridge.specs.declared.MapperType.{MapperType}
 use Rattle.cartridge.specs.declared.MapperType.the-variants.{Mmc3}
-use Rattle.places.specs.declared.Place.{Place}
 use Rattle.places.specs.declared.Place.the-variants.{PrgRam, Zero, Refused}
 use Rattle.mmc3.specs.Clock as mmc3-clock
 use Rattle.mmc3.specs.Read as mmc3
@@ -24,12 +23,11 @@ use Rattle.mmc3.specs.declared.Clocked.{Clocked}
 use Rattle.mmc3.specs.declared.Mmc3 as mmc3-type
 use Rattle.mmc3.specs.declared.Wrote.{Wrote}
 use Rattle.boards.specs.Range.{inRange}
-use Rattle.boards.specs.Write.{writePlaceOn, writePlace, withMmc3, moved, writtenAs, landing}
-use Rattle.boards.specs.Clock.{yesNo, mmc3Ticked, tickedOn, ticked, clock, unmoved}
+use Rattle.boards.specs.Write.{writePlaceOn, writePlace, withMmc3, moved, landing}
+use Rattle.boards.specs.Clock.{yesNo, mmc3Ticked, tickedOn, ticked, clock}
 use Rattle.boards.specs.Runs.{Lent, Call, next}
 use Rattle.boards.specs.Runs.Call.{read, write, clock as tick}
 use Rattle.boards.specs.declared.Board.{Board}
-use Rattle.boards.specs.declared.ClockAnswer.{ClockAnswer}
 use Rattle.laws.specs.Loads.{isAccepted}
 use Rattle.laws.specs.SettlesMmc3.{OneImage, isLatch, isReload, isEnable, accepts, irqAnswers, Arming, latched, reloaded, armed, Accepts}
 use Rattle.laws.specs.PLines.{mmc3 as mmc3-image, ram, loadOf}
