@@ -39,39 +39,41 @@ pub record Clears (w : Write) (b : Board) : Type 0 where
 abbrev pub cleared : Write → Board → Board
 cleared w b = next b (write (w .lent) (w .address) (w .byte))
 
--- a call with its buffers' contents wiped and their lengths kept
+-- "lent buffers of the same lengths (contents may differ)": what is left once the contents are wiped
 abbrev pub wipedLent : Lent → Lent
 wipedLent l =
     record { image = replicate (length (l .image)) 0; prg = replicate (length (l .prg)) 0; chr = replicate (length (l .chr)) 0 }
 
+-- a call of any kind, its buffers wiped
 abbrev pub wiped : Call → Call
 wiped (read l a) = read (wipedLent l) a
 wiped (write l a v) = write (wipedLent l) a v
 wiped clock = clock
 
--- "the same calls with lent buffers of the same lengths (contents may differ)"
+-- "then get the same calls", but for the contents of the buffers
 abbrev pub SameCalls : List Call → List Call → Type 0
 SameCalls cs ds = map wiped cs ≡ map wiped ds
 
--- what the call at a position completes; a refused write completes nothing
+-- "complete loads": what the call at a position completes; a refused write completes nothing
 abbrev pub doneAt : Board → List Call → ℕ → Done
 doneAt b cs i = getD (loads b cs) i nothing
 
--- how many of the calls are serial writes, accepted ones without bit 7
+-- "serial write": an accepted write to 8000-FFFF without bit 7
 abbrev pub isSerialWrite : Board → Call → Bool
 isSerialWrite b (read l a) = false
 isSerialWrite b (write l a v) = isSerial b l a v
 isSerialWrite b clock = false
 
+-- how many of the calls are serial writes
 abbrev pub serialWrites : Board → List Call → ℕ
 serialWrites b [] = 0
 serialWrites b (c ∷ cs) = cond (isSerialWrite b c) 1 0 + serialWrites (next b c) cs
 
--- "bit 4: 4 KB CHR mode", as it stands when the call at a position is made
+-- "control bit 4", which is the CHR mode, as it stands when the call at a position is made
 abbrev pub bit4At : Board → List Call → ℕ → ℕ
 bit4At b cs i = after b (take i cs) .mmc1 .regs .chrmode
 
--- the call at a position completes a load of a register
+-- "a control load", "a CHR 0 load" and so on: the call at a position completes a load of that register
 pub record LoadsAt (b : Board) (cs : List Call) (r : Register) (i : ℕ) : Type 0 where
   pub bits : ℕ
   pub done : doneAt b cs i ≡ load r bits
@@ -96,7 +98,7 @@ pub record Agree (b d : Board) : Type 0 where
   pub mirroring : b .mirroring ≡ d .mirroring
   pub mmc1 : b .mmc1 ≡ d .mmc1
 
--- what demand 3 says of two boards that a bit 7 write has cleared, and of the calls that they get
+-- what demand 3 says of two boards that accepted such a write, and of the calls that they get then
 pub record Settles (b d : Board) (cs ds : List Call) : Type 0 where
   -- "The same writes complete loads, in the same registers, with the same five bits,
   pub the-same-loads : loads b cs ≡ loads d ds
@@ -106,6 +108,7 @@ pub record Settles (b d : Board) (cs ds : List Call) : Type 0 where
   pub the-boards-agree : Settled b cs → Agree (after b cs) (after d ds)
   -- so with equal RAM bytes all later answers agree (reads with their refusals, notices, clocks)"
   pub later-answers-agree : Settled b cs → (later : List Call) → answers (after b cs) later ≡ answers (after d ds) later
-  -- and the RAM bytes stay equal: what each later call leaves
+  -- and the RAM bytes stay equal: what a later call leaves in the lent PRG RAM
   pub later-prg-rams-agree : Settled b cs → (later : List Call) (c : Call) → prgAfter (after (after b cs) later) c ≡ prgAfter (after (after d ds) later) c
+  -- and in the lent CHR RAM
   pub later-chr-rams-agree : Settled b cs → (later : List Call) (c : Call) → chrAfter (after (after b cs) later) c ≡ chrAfter (after (after d ds) later) c
