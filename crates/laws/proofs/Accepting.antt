@@ -14,9 +14,8 @@ use Rattle.boards.specs.Range.{inRange, isLoaded, ramsFit, guarded}
 use Rattle.boards.specs.Write.{writePlace, moved, writtenAs, landing}
 use Rattle.boards.specs.Runs.{Lent}
 use Rattle.boards.specs.declared.Board.{Board}
-use Rattle.laws.specs.Loads.{isAccepted}
+use Rattle.laws.specs.Loads.{isAccepted, accepts}
 use Rattle.laws.specs.Within.{Found}
-use Rattle.laws.specs.SettlesMmc3.{accepts}
 use Rattle.laws.proofs.Cases.{alike}
 use Rattle.laws.proofs.Within.{board-writes}
 

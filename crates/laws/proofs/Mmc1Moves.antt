@@ -28,9 +28,8 @@ use Rattle.boards.specs.Runs.{Call, next}
 use Rattle.boards.specs.Runs.Call.{read, write, clock as tick}
 use Rattle.boards.specs.declared.Board.{Board}
 use Rattle.boards.specs.declared.Clocked.{Clocked}
-use Rattle.laws.specs.Loads.{Done, isMmc1, isAccepted, isSerial, completes}
+use Rattle.laws.specs.Loads.{Done, isMmc1, isAccepted, accepts, isSerial, completes}
 use Rattle.laws.specs.Loads.Done.{nothing, load}
-use Rattle.laws.specs.SettlesMmc3.{accepts}
 use Rattle.laws.proofs.Cases.{either, alike}
 use Rattle.laws.proofs.Accepting.{board-alike, accepted-alike, after-write}
 use Rattle.laws.proofs.Ranges.{next-in-range, next-keeps-cart}

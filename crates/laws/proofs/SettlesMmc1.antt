@@ -30,9 +30,8 @@ use Rattle.boards.specs.Write.{nextMirroring}
 use Rattle.boards.specs.Runs.{Lent, Call, next, after}
 use Rattle.boards.specs.Runs.Call.{read, write, clock as tick}
 use Rattle.boards.specs.declared.Board.{Board}
-use Rattle.laws.specs.Loads.{Done, isMmc1, isSerial, completes, loads}
+use Rattle.laws.specs.Loads.{Done, isMmc1, accepts, isSerial, completes, loads}
 use Rattle.laws.specs.Loads.Done.{nothing, load}
-use Rattle.laws.specs.SettlesMmc3.{accepts}
 use Rattle.laws.specs.SettlesMmc1.{OneImage, Write, Clears, cleared, SameCalls, doneAt, isSerialWrite, serialWrites, Settled, Agree, Settles}
 use Rattle.laws.proofs.Positions.{same-after, same-loads, Kept, Makes, Any, once, twice}
 use Rattle.laws.proofs.Ranges.{next-in-range, next-keeps-cart, run-in-range, run-keeps-cart, start-in-range}
@@ -40,13 +39,13 @@ use Rattle.laws.proofs.Mmc1Moves.{Move, no-load, filled, move, serialAf
 use Rattle.laws.proofs.Mmc1Moves.Move.{stay, clear, enter, fill}
 use Rattle.laws.proofs.Mmc1Answers.{Alike, answers-alike, prg-rams-alike, chr-rams-alike}
 
--- ---- the loads
+-- the same moves complete the same loads
 one-loads : {b d : Board} → Common b d → (cs : List Call) → loads b cs ≡ loads d cs
 unfolding loads
 one-loads r [] = refl
 one-loads r (c ∷ cs) = ap₂ _∷_ (one-done r c) (one-loads (next-common r c) cs)
 
--- ---- mirroring
+-- a mirroring is known by its letter
 named : ℕ → Mirroring
 named n = cond (eqb n 0x48) Horizontal (cond (eqb n 0x56) Vertical (cond (eqb n 0x55) SingleScreenUpper SingleScreenLower))
 
@@ -69,7 +68,7 @@ house-screens b h e =
     (subst (λ (m : Mode). screensFit m (b .cart .mapper) (same (b .mirroring) (b .cart .mirroring)) (isHeaders (b .mirroring)) ≡ true) e
     (split-3 (couldLoad (b .cart)) (registersFit b) (mirroringFits b) h .2))
 
--- ---- what the loads make one
+-- what a control load makes one, and then CHR 0, CHR 1 and PRG loads
 record Modes (b d : Board) : Type 0 where
   common : Common b d
   prgmode : b .mmc1 .regs .prgmode ≡ d .mmc1 .regs .prgmode
@@ -128,6 +127,7 @@ keep-program b d r c =
       prg = by-move (r .common) (λ (x y : Board). x .mmc1 .regs .prg ≡ y .mmc1 .regs .prg) c (ap (bankAfter (move b c)) (r .prg));
     }
 
+-- what a load makes of the boards, read off its move
 module _ {b d : Board} (r : Common b d) (w : Register) (c : Call) (v : ℕ) (e : completes b c ≡ load w v) where
   by-load : (Q : Board → Board → Type 0) → Q (boardAfter (fill w v) (b .cart .mode) b) (boardAfter (fill w v) (b .cart .mode) d) → Q (next b c) (next d c)
   by-load Q h =
@@ -215,7 +215,7 @@ settles b d r cs s =
     program : Program (after b cs) (after d cs)
     program = once Common Program keep-common keep-program Any Prg prg-makes b d r cs (s .prg) (s .prg-load) tt
 
--- ---- the bit 7 write
+-- a bit 7 write clears, so the two serial registers are one
 clear-move : (w : Write) (b : Board) → Clears w b → move b (write (w .lent) (w .address) (w .byte)) ≡ clear
 unfolding move
 clear-move w b p = rw (move, p .accepted, le-ltb (w .address) 0x8000 (p .to-8000-FFFF), p .bit-7) refl
@@ -237,7 +237,7 @@ start-common b d one w u p q =
       serial = emptied w b (one .is-mmc1) p ∙ sym (emptied u d (ap (λ (x : Cartridge). x .mapper) (sym (one .cart)) ∙ one .is-mmc1) q);
     }
 
--- ---- the fifth serial write
+-- how far a move takes the count of bits
 counts : (p q r s : Bool) (x t : Serial) (w : Register) (v : ℕ) → t .count ≡ x .count + 1
     → serialAfter (cond p (cond q stay (cond r clear (cond s (enter t) (fill w v)))) stay) x .count ≤ x .count + cond (p && not q && not r) 1 0
 counts false q r s x t w v e = omega arith
@@ -283,7 +283,7 @@ fifth-at b e (c ∷ cs) zero r v h =
 fifth-at b e (c ∷ cs) (suc i) r v h =
     omega (arith, next-count b e c, fifth-at (next b c) (ap (λ (x : Cartridge). x .mapper) (next-keeps-cart b c) ∙ e) cs i r v h)
 
--- ---- refused writes
+-- a test that fails leaves nothing
 off : (k p q r s : Bool) (x : Done) → p ≡ false → cond ((k && p && q && r) && s) x nothing ≡ nothing
 off true p q r s x e = rw e refl
 off false p q r s x e = refl
@@ -293,7 +293,6 @@ unfolding completes isSerial
 a-refused-write-completes-nothing b l a v e =
     off (isMmc1 (b .cart .mapper)) (accepts b l a) (not (ltb a 0x8000)) (not (isSigned v)) (not (ltb (b .mmc1 .serial .count) 4)) (load (registerAt a) (shifted (b .mmc1 .serial) v)) e
 
--- ---- demand 3
 -- boards of one cartridge after any two histories
 pub any-two-histories : (c : Cartridge) → couldLoad c ≡ true → c .mapper ≡ Mmc1 → (xs ys : List Call) → OneImage (after (startOf c) xs) (after (startOf c) ys)
 unfolding startOf

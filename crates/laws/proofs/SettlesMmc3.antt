@@ -28,8 +28,8 @@ use Rattle.boards.specs.Clock.{yesNo, mmc3Ticked, tickedOn, ticked, clock}
 use Rattle.boards.specs.Runs.{Lent, Call, next}
 use Rattle.boards.specs.Runs.Call.{read, write, clock as tick}
 use Rattle.boards.specs.declared.Board.{Board}
-use Rattle.laws.specs.Loads.{isAccepted}
-use Rattle.laws.specs.SettlesMmc3.{OneImage, isLatch, isReload, isEnable, accepts, irqAnswers, Arming, latched, reloaded, armed, Accepts}
+use Rattle.laws.specs.Loads.{isAccepted, accepts}
+use Rattle.laws.specs.SettlesMmc3.{OneImage, isLatch, isReload, isEnable, irqAnswers, Arming, latched, reloaded, armed, Accepts}
 use Rattle.laws.specs.PLines.{mmc3 as mmc3-image, ram, loadOf}
 use Rattle.laws.proofs.Opened.{opened}
 use Rattle.laws.proofs.Ranges.{next-in-range, next-keeps-cart}

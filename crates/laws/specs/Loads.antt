@@ -37,10 +37,13 @@ isAccepted (PrgRam i) = true
 isAccepted (ChrRam i) = true
 isAccepted Zero = true
 
+-- a write that the board accepts
+abbrev pub accepts : Board → Lent → ℕ → Bool
+accepts b l a = isAccepted (landing b (l .image) (l .prg) (l .chr) a)
+
 -- a write to 8000-FFFF without bit 7, accepted by an MMC1 board
 unfoldable pub isSerial : Board → Lent → ℕ → ℕ → Bool
-isSerial b l a v =
-    isMmc1 (b .cart .mapper) && isAccepted (landing b (l .image) (l .prg) (l .chr) a) && not (ltb a 0x8000) && not (isSigned v)
+isSerial b l a v = isMmc1 (b .cart .mapper) && accepts b l a && not (ltb a 0x8000) && not (isSigned v)
 
 -- "the fifth completes a load"
 unfoldable pub completes : Board → Call → Done

@@ -12,9 +12,8 @@ use Rattle.boards.specs.Range.{inRange}
 use Rattle.boards.specs.Runs.{Lent, Call, next, prgAfter, chrAfter, after, answers}
 use Rattle.boards.specs.Runs.Call.{read, write, clock}
 use Rattle.boards.specs.declared.Board.{Board}
-use Rattle.laws.specs.Loads.{Done, isSerial, loads}
+use Rattle.laws.specs.Loads.{Done, accepts, isSerial, loads}
 use Rattle.laws.specs.Loads.Done.{nothing, load}
-use Rattle.laws.specs.SettlesMmc3.{accepts}
 
 -- "two boards of one image and mode", after "any two histories"
 pub record OneImage (b d : Board) : Type 0 where
@@ -100,13 +99,13 @@ pub record Agree (b d : Board) : Type 0 where
 
 -- what demand 3 says of two boards that accepted such a write, and of the calls that they get then
 pub record Settles (b d : Board) (cs ds : List Call) : Type 0 where
-  -- "The same writes complete loads, in the same registers, with the same five bits,
+  -- "The same writes complete loads, in the same registers, with the same five bits"
   pub the-same-loads : loads b cs ≡ loads d ds
-  -- and none before the fifth serial write": up to and with the one that completes there are five
+  -- "and none before the fifth serial write": up to and with the call that completes one there are five
   pub none-before-the-fifth : (i : ℕ) (r : Register) → LoadsAt b cs r i → 5 ≤ serialWrites b (take (i + 1) cs)
-  -- "Once there have been .., the boards agree in all that answers depend on,
+  -- "Once there have been a control load, ..": "the boards agree in all that answers depend on"
   pub the-boards-agree : Settled b cs → Agree (after b cs) (after d ds)
-  -- so with equal RAM bytes all later answers agree (reads with their refusals, notices, clocks)"
+  -- "so with equal RAM bytes all later answers agree (reads with their refusals, notices, clocks)"
   pub later-answers-agree : Settled b cs → (later : List Call) → answers (after b cs) later ≡ answers (after d ds) later
   -- and the RAM bytes stay equal: what a later call leaves in the lent PRG RAM
   pub later-prg-rams-agree : Settled b cs → (later : List Call) (c : Call) → prgAfter (after (after b cs) later) c ≡ prgAfter (after (after d ds) later) c

@@ -1,18 +1,17 @@
 -- Demand 3, MMC3: two boards of one image and mode that accept the same latch, reload, enable and clock agree on every IRQ answer from that clock on.
 use Prim.Native.Nat.{ℕ, _%_}
 use mathlib.Core.Path.{_≡_}
-use mathlib.Core.Bool.{Bool, true, false, not, _&&_}
+use mathlib.Core.Bool.{Bool, true, not, _&&_}
 use mathlib.Core.List.{List, [], _∷_}
 use lib.Dec.{ltb, eqb}
 use Rattle.cartridge.specs.declared.MapperType.the-variants.{Mmc3}
 use Rattle.boards.specs.Range.{inRange}
 use Rattle.boards.specs.Clock as clocks
-use Rattle.boards.specs.Write.{landing}
 use Rattle.boards.specs.Runs.{Lent, Call, next}
 use Rattle.boards.specs.Runs.Call.{read, write, clock}
 use Rattle.boards.specs.declared.Board.{Board}
 use Rattle.boards.specs.declared.ClockAnswer.{ClockAnswer}
-use Rattle.laws.specs.Loads.{isAccepted}
+use Rattle.laws.specs.Loads.{accepts}
 
 -- two MMC3 boards of one image and mode, after any two histories
 pub record OneImage (b d : Board) : Type 0 where
@@ -32,10 +31,6 @@ isReload a = not (eqb (a % 2) 0) && not (ltb a 0xC000) && ltb a 0xE000
 -- an odd write to E000-FFFF
 abbrev pub isEnable : ℕ → Bool
 isEnable a = not (eqb (a % 2) 0) && not (ltb a 0xE000)
-
--- a write that the board accepts
-abbrev pub accepts : Board → Lent → ℕ → Bool
-accepts b l a = isAccepted (landing b (l .image) (l .prg) (l .chr) a)
 
 -- the IRQ answers of a list of calls
 abbrev pub irqAnswers : Board → List Call → List ClockAnswer
