@@ -129,7 +129,7 @@ pub fn load(image: &[u8], mode: Mode, prg: &mut [u8], chr: &mut [u8]) -> Loaded
 }
 
 // Both RAMs are lent whole, used or not.
-fn rams_fit(prg: usize, chr: usize) -> bool
+pub fn rams_fit(prg: usize, chr: usize) -> bool
     ensures { λ r. ⌜ r ≡ ramsFit prg chr ⌝ }
 {
     (prg == 8192) & (chr == 8192)
@@ -314,7 +314,7 @@ impl Board {
         }
     }
 
-    fn quiet(self) -> Written
+    pub fn quiet(self) -> Written
         ensures { λ r. ⌜ r ≡ quiet self ⌝ }
     {
         Written {
@@ -365,7 +365,7 @@ impl Board {
         }
     }
 
-    fn uxrom_written(self, value: u8, address: u16) -> Written
+    pub fn uxrom_written(self, value: u8, address: u16) -> Written
         ensures { λ r. ⌜ r ≡ uxromWritten self value address ⌝ }
     {
         let uxrom = self.uxrom;
@@ -375,7 +375,7 @@ impl Board {
         next.quiet()
     }
 
-    fn cnrom_written(self, value: u8, address: u16) -> Written
+    pub fn cnrom_written(self, value: u8, address: u16) -> Written
         ensures { λ r. ⌜ r ≡ cnromWritten self value address ⌝ }
     {
         let cnrom = self.cnrom;
@@ -385,7 +385,7 @@ impl Board {
         next.quiet()
     }
 
-    fn mmc1_written(self, value: u8, address: u16) -> Written
+    pub fn mmc1_written(self, value: u8, address: u16) -> Written
         ensures { λ r. ⌜ r ≡ mmc1Written self value address ⌝ }
     {
         let cart = self.cart;
@@ -399,7 +399,7 @@ impl Board {
         next.turned(mirrors)
     }
 
-    fn mmc3_written(self, value: u8, address: u16) -> Written
+    pub fn mmc3_written(self, value: u8, address: u16) -> Written
         ensures { λ r. ⌜ r ≡ mmc3Written self value address ⌝ }
     {
         let mmc3 = self.mmc3;
@@ -442,7 +442,7 @@ impl Board {
         }
     }
 
-    fn mmc3_ticked(self) -> Clocked
+    pub fn mmc3_ticked(self) -> Clocked
         ensures { λ r. ⌜ r ≡ mmc3Ticked self ⌝ }
     {
         let cart = self.cart;
@@ -458,7 +458,7 @@ impl Board {
         }
     }
 
-    fn unmoved(self, answer: ClockAnswer) -> Clocked
+    pub fn unmoved(self, answer: ClockAnswer) -> Clocked
         ensures { λ r. ⌜ r ≡ unmoved self answer ⌝ }
     {
         Clocked {

@@ -1,7 +1,9 @@
 -- What stands in lent bytes.
 use Prim.Native.Nat.{ℕ}
+use mathlib.Core.Bool.{cond}
 use mathlib.Core.List.{List}
-use lib.ListN.{getD, take, drop}
+use lib.Dec.{eqb}
+use lib.ListN.{length, getD, take, drop}
 
 -- the byte at a place, 0 past the end
 abbrev pub byte : List ℕ → ℕ → ℕ
@@ -14,3 +16,7 @@ tail s a = drop a s
 -- size bytes from a place on
 abbrev pub part : List ℕ → ℕ → ℕ → List ℕ
 part s a size = take size (drop a s)
+
+-- all of src, where it has just the length of dst; else what dst held
+unfoldable pub copied : List ℕ → List ℕ → List ℕ
+copied dst src = cond (eqb (length dst) (length src)) src dst

@@ -2,7 +2,7 @@
 // Beside potatis mos6502/src/memory.rs, whose Bus gives the shape of a read and a write.
 ghost use mathlib.Core.Path.{_≡_};
 ghost use lib.ListN.{length, replicate, set};
-ghost use Rattle.memory.specs.Memory.{byte, tail, part};
+ghost use Rattle.memory.specs.Memory.{byte, tail, part, copied};
 
 // The byte at a place, 0 past the end.
 pub fn byte_at(s: &[u8], i: usize) -> u8
@@ -44,5 +44,16 @@ pub fn clear(s: &mut [u8])
 {
     for i in 0..s.len() {
         s[i] = 0;
+    }
+}
+
+// Copies all of src, where dst has just its length; else nothing.
+pub fn copy(dst: &mut [u8], src: &[u8])
+    ensures { λ _. ⌜ now (dst .exit) ≡ copied (now (dst .entry)) (now (src .entry)) ⌝ }
+{
+    if dst.len() == src.len() {
+        for i in 0..dst.len() {
+            dst[i] = src[i];
+        }
     }
 }

@@ -439,13 +439,28 @@ impl Mmc1 {
         }
     }
 
+    // Through the banks, as a read goes. Its own windows, so that the compiler makes read_place a part
+    // of the one call that reads.
+    fn board_write_place(self, cart: Cartridge, address: u16) -> Place
+        ensures { λ r. ⌜ r ≡ readPlace self cart address ⌝ }
+    {
+        match address {
+            0x0000..=0x0fff => self.lower_chr_place(cart, address),
+            0x1000..=0x1fff => self.upper_chr_place(cart, address - 0x1000),
+            0x6000..=0x7fff => Place::PrgRam((address - 0x6000) as usize),
+            0x8000..=0xbfff => self.lower_prg_place(cart, address - 0x8000),
+            0xc000..=0xffff => self.upper_prg_place(cart, address - 0xc000),
+            _ => Place::Zero,
+        }
+    }
+
     pub fn write_place(self, cart: Cartridge, address: u16) -> Place
         ensures { λ r. ⌜ r ≡ writePlace self cart address ⌝ }
     {
         let mode = cart.mode;
         match mode {
             Mode::House => house_write_place(cart, address),
-            Mode::Board => self.read_place(cart, address),
+            Mode::Board => self.board_write_place(cart, address),
         }
     }
 

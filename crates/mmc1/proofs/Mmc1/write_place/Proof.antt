@@ -11,4 +11,4 @@ write-place-spec =
     (tie.spec
     (λ c. search picks) (λ c κs. search picks) (λ c. search picks) (λ c κs. search picks)
     (λ c. simp (c .house-write-place .ensures, c .before .enum-told .given .1))
-    (λ c. simp (c .read-place .ensures, c .before .enum-told2 .given .1)))
+    (λ c. simp (c .board-write-place .ensures, c .before .enum-told2 .given .1)))

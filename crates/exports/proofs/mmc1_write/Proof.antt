@@ -1,0 +1,25 @@
+-- Decided, stored and answered by the rules of this board. Assumes nothing.
+use Rattle.rules.proofs.Picks.{picks}
+use Rattle.boards.specs.Write.{writePlaceOn, writePlace, movedOn, moved}
+use Rattle.exports.proofs.Joined.{kept-for, written-is}
+use Rattle.exports.specs.Steps.{landingOn}
+use Rattle.states.specs.Words.{cartAs, boardAs}
+use Rattle.exports.proofs.mmc1_write.Statement.{statement}
+use Rattle.exports.proofs.mmc1_write.Tie as tie
+
+pub mmc1-write-spec : {M : Type 1} → statement M
+unfolding landingOn writePlace writePlaceOn moved movedOn boardAs cartAs
+mmc1-write-spec =
+    tie.close
+    (tie.spec
+    (λ c. search picks)
+    (λ c. search picks)
+    (λ c. search picks)
+    (λ c. search picks)
+    (λ c. search picks)
+    (λ c. search picks)
+    (λ c. search picks)
+    (λ c. search picks)
+    (λ c. search picks)
+    (λ c. search picks)
+    (λ c. record { reply = simp (kept-for, ← written-is, c .moved-by .ensures, c .before .unless-refused .ensures, c .before .before .mmc1-written .ensures, c .before .before .before .before .before .before .before .before .before .before .kept-place .ensures, c .before .before .before .before .before .before .before .before .before .before .before .write-place .ensures, c .before .before .before .before .before .before .before .before .before .before .before .before .mmc1-fits .ensures, c .before .before .before .before .before .before .before .before .before .before .before .before .before .before .before .mmc1-board .ensures); prg-ram = simp (c .before .before .before .before .before .before .before .store .ensures .prg-ram, kept-for, c .moved-by .ensures, c .before .unless-refused .ensures, c .before .before .mmc1-written .ensures, c .before .before .before .before .before .before .before .before .before .before .kept-place .ensures, c .before .before .before .before .before .before .before .before .before .before .before .write-place .ensures, c .before .before .before .before .before .before .before .before .before .before .before .before .mmc1-fits .ensures, c .before .before .before .before .before .before .before .before .before .before .before .before .before .before .before .mmc1-board .ensures); chr-ram = simp (c .before .before .before .before .before .before .before .store .ensures .chr-ram, kept-for, c .moved-by .ensures, c .before .unless-refused .ensures, c .before .before .mmc1-written .ensures, c .before .before .before .before .before .before .before .before .before .before .kept-place .ensures, c .before .before .before .before .before .before .before .before .before .before .before .write-place .ensures, c .before .before .before .before .before .before .before .before .before .before .before .before .mmc1-fits .ensures, c .before .before .before .before .before .before .before .before .before .before .before .before .before .before .before .mmc1-board .ensures) }))

@@ -1,0 +1,19 @@
+-- The words fit or not; a board in range ticks as its mapper does. Assumes nothing.
+use Rattle.rules.proofs.Picks.{picks}
+use Rattle.boards.specs.Clock.{tickedOn, ticked}
+use Rattle.exports.specs.Steps.{clockOn}
+use Rattle.states.specs.Words.{cartAs, boardAs}
+use Rattle.exports.proofs.mmc3_clock.Statement.{statement}
+use Rattle.exports.proofs.mmc3_clock.Tie as tie
+
+pub mmc3-clock-spec : {M : Type 1} → statement M
+unfolding clockOn ticked tickedOn boardAs cartAs
+mmc3-clock-spec =
+    tie.close
+    (tie.spec
+    (λ c. search picks)
+    (λ c. search picks)
+    (λ c. search picks)
+    (λ c. search picks)
+    (λ c. search picks)
+    (λ c. simp (c .clock-moved .ensures, c .before .clocked-as .ensures, c .before .before .mmc3-ticked .ensures, c .before .before .before .mmc3-fits .ensures, c .before .before .before .before .mmc3-board .ensures)))
