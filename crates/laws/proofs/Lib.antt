@@ -16,6 +16,7 @@ pub mod Within
 pub mod Useless
 pub mod Choices
 pub mod SettlesMmc3
+pub mod SettlesMmc3Met
 pub mod SettlesMmc1
 pub mod SettlesMmc1Met
 pub mod ControlBit4

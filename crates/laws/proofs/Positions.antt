@@ -27,7 +27,7 @@ wiped-landing b l a =
     (isLoaded b (length-replicate {A = ℕ} (length (l .image)) 0 i))
     (writePlace b a)
 
-wiped-next : (b : Board) (c : Call) → next b (wiped c) ≡ next b c
+pub wiped-next : (b : Board) (c : Call) → next b (wiped c) ≡ next b c
 unfolding next
 wiped-next b (read l a) = refl
 wiped-next b (write l a v) = ap (λ (p : Place). writtenAs b p v a .board) (wiped-landing b l a)

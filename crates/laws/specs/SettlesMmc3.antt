@@ -7,7 +7,7 @@ use lib.Dec.{ltb, eqb}
 use Rattle.cartridge.specs.declared.MapperType.the-variants.{Mmc3}
 use Rattle.boards.specs.Range.{inRange}
 use Rattle.boards.specs.Clock as clocks
-use Rattle.boards.specs.Runs.{Lent, Call, next}
+use Rattle.boards.specs.Runs.{Lent, Call, next, after}
 use Rattle.boards.specs.Runs.Call.{read, write, clock}
 use Rattle.boards.specs.declared.Board.{Board}
 use Rattle.boards.specs.declared.ClockAnswer.{ClockAnswer}
@@ -69,3 +69,10 @@ pub record Accepts (b : Board) (w : Arming) : Type 0 where
   pub latch : accepts b (w .first) (w .toLatch) ≡ true
   pub reload : accepts (latched b w) (w .second) (w .toReload) ≡ true
   pub enable : accepts (reloaded b w) (w .third) (w .toEnable) ≡ true
+
+-- what demand 3 says of two boards that accepted the three writes, of the clock straight after them and of the calls that they get then
+pub record Settles (b d : Board) (cs ds : List Call) : Type 0 where
+  -- "agree on every IRQ answer from that clock on"
+  pub irq-answers-agree : irqAnswers b (clock ∷ cs) ≡ irqAnswers d (clock ∷ ds)
+  -- a later write, so too the acknowledging one (14), is refused on both or on neither
+  pub both-refuse-or-neither : (l : Lent) (a : ℕ) → accepts (after (next b clock) cs) l a ≡ accepts (after (next d clock) ds) l a
