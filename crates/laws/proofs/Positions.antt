@@ -13,9 +13,10 @@ use Rattle.boards.specs.Write.{writePlace, writtenAs, landing}
 use Rattle.boards.specs.Runs.{Lent, Call, next, after}
 use Rattle.boards.specs.Runs.Call.{read, write, clock as tick}
 use Rattle.boards.specs.declared.Board.{Board}
+use Rattle.laws.specs.Calls.{wipedLent, wiped, SameCalls}
 use Rattle.laws.specs.Loads.{isSerial, completes, loads}
 use Rattle.laws.specs.Loads.Done.{load}
-use Rattle.laws.specs.SettlesMmc1.{wipedLent, wiped, SameCalls, LoadsAt}
+use Rattle.laws.specs.SettlesMmc1.{LoadsAt}
 use Rattle.laws.proofs.Mmc1Moves.{no-load}
 
 -- a write is accepted by the lengths of what it is lent

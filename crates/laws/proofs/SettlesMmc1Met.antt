@@ -7,6 +7,7 @@ use native.Mathlib.Omega.{arith}
 use lib.ListN.{replicate}
 use Rattle.common.specs.declared.Mode.{Mode}
 use Rattle.common.specs.declared.Mode.the-variants.{House, Board as OnBoard}
+use Rattle.cartridge.specs.declared.MapperType.the-variants.{Mmc1}
 use Rattle.cartridge.specs.declared.Mirroring.{Mirroring}
 use Rattle.cartridge.specs.declared.Mirroring.the-variants.{Vertical, SingleScreenUpper}
 use Rattle.cartridge.specs.declared.Refusal.the-variants.{BankPastData}
@@ -16,8 +17,9 @@ use Rattle.boards.specs.Runs.{Lent, Call, Answer, after, answers}
 use Rattle.boards.specs.Runs.Call.{read, write, clock}
 use Rattle.boards.specs.Runs.Answer.{toRead}
 use Rattle.boards.specs.declared.Board.{Board}
+use Rattle.laws.specs.Calls.{OneImage, Write, SameCalls}
 use Rattle.laws.specs.PLines.{mmc1 as mmc1-image, ram, loadOf}
-use Rattle.laws.specs.SettlesMmc1.{OneImage, Write, Clears, cleared, SameCalls, Settled, Agree}
+use Rattle.laws.specs.SettlesMmc1.{Clears, cleared, Settled, Agree}
 use Rattle.laws.proofs.SettlesMmc1.{mmc1-settles}
 use Rattle.laws.proofs.Opened.{opened}
 
@@ -62,10 +64,10 @@ calls l =
     ++ five l 0xC000 6
     ++ five l 0xA000 5
 
-pub met-image : (mode : Mode) → OneImage (fresh mode) (used mode)
+pub met-image : (mode : Mode) → OneImage Mmc1 (fresh mode) (used mode)
 unfolding opened
-met-image House = record { cart = refl; is-mmc1 = refl; first = refl; second = refl }
-met-image OnBoard = record { cart = refl; is-mmc1 = refl; first = refl; second = refl }
+met-image House = record { cart = refl; mapper = refl; first = refl; second = refl }
+met-image OnBoard = record { cart = refl; mapper = refl; first = refl; second = refl }
 
 pub met-fresh : (mode : Mode) → Clears (bit7 lent) (fresh mode)
 unfolding opened

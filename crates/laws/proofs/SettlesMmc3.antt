@@ -10,7 +10,6 @@ use borrow.Author.Tests.{ltb-false, not-true, le-ltb}
 use Rattle.rules.proofs.Bools.{and-left, and-right, split-3}
 use Rattle.common.specs.declared.Mode.{Mode}
 use Rattle.common.specs.declared.Mode.the-variants.{House, Board as OnBoard}
-use Rattle.cartridge.specs.Load.{couldLoad}
 use Rattle.cartridge.specs.declared.Cartridge.{Cartridge}
 use Rattle.cartridge.specs.declared.Refusal.the-variants.{IrqPending}
 use Rattle.cartridge.specs.declared.MapperType.{MapperType}
@@ -24,17 +23,16 @@ use Rattle.mmc3.specs.declared.Clocked.{Clocked}
 use Rattle.mmc3.specs.declared.Mmc3 as mmc3-type
 use Rattle.mmc3.specs.declared.Wrote.{Wrote}
 use Rattle.boards.specs.Range.{inRange}
-use Rattle.boards.specs.Start.{startOf}
 use Rattle.boards.specs.Write.{writePlaceOn, writePlace, moved, landing}
 use Rattle.boards.specs.Clock.{yesNo, mmc3Ticked, tickedOn, ticked, clock}
 use Rattle.boards.specs.Runs.{Lent, Call, next, after}
 use Rattle.boards.specs.Runs.Call.{read, write, clock as tick}
 use Rattle.boards.specs.declared.Board.{Board}
+use Rattle.laws.specs.Calls.{OneImage, wiped, SameCalls}
 use Rattle.laws.specs.Loads.{isAccepted, accepts}
-use Rattle.laws.specs.SettlesMmc1.{wiped, SameCalls}
-use Rattle.laws.specs.SettlesMmc3.{OneImage, isLatch, isReload, isEnable, irqAnswers, Arming, latched, reloaded, armed, Accepts, Settles}
+use Rattle.laws.specs.SettlesMmc3.{isLatch, isReload, isEnable, irqAnswers, Arming, latched, reloaded, armed, Accepts, Settles}
 use Rattle.laws.proofs.Positions.{wiped-next, same-after}
-use Rattle.laws.proofs.Ranges.{next-in-range, next-keeps-cart, run-in-range, run-keeps-cart, start-in-range}
+use Rattle.laws.proofs.Ranges.{next-in-range, next-keeps-cart}
 use Rattle.laws.proofs.Cases.{alike}
 use Rattle.laws.proofs.Accepting.{board-alike, accepted-alike, after-write}
 use Rattle.laws.proofs.PublicClocks.{moved-mmc3}
@@ -221,36 +219,36 @@ irqOf m = m .irq
 -- the three writes leave such a unit
 module _ (b : Board) (ok : inRange b ≡ true) (is-mmc3 : b .cart .mapper ≡ Mmc3) (w : Arming) (p : Accepts b w) where
   ok₁ : inRange (latched b w) ≡ true
-  ok₁ = next-in-range b (write (w .first) (w .toLatch) (w .latch)) ok
+  ok₁ = next-in-range b (write (w .latch .lent) (w .latch .address) (w .latch .byte)) ok
 
   ok₂ : inRange (reloaded b w) ≡ true
-  ok₂ = next-in-range (latched b w) (write (w .second) (w .toReload) (w .reloadByte)) ok₁
+  ok₂ = next-in-range (latched b w) (write (w .reload .lent) (w .reload .address) (w .reload .byte)) ok₁
 
   ok₃ : inRange (armed b w) ≡ true
-  ok₃ = next-in-range (reloaded b w) (write (w .third) (w .toEnable) (w .enableByte)) ok₂
+  ok₃ = next-in-range (reloaded b w) (write (w .enable .lent) (w .enable .address) (w .enable .byte)) ok₂
 
   cart₁ : latched b w .cart ≡ b .cart
-  cart₁ = next-keeps-cart b (write (w .first) (w .toLatch) (w .latch))
+  cart₁ = next-keeps-cart b (write (w .latch .lent) (w .latch .address) (w .latch .byte))
 
   cart₂ : reloaded b w .cart ≡ b .cart
-  cart₂ = next-keeps-cart (latched b w) (write (w .second) (w .toReload) (w .reloadByte)) ∙ cart₁
+  cart₂ = next-keeps-cart (latched b w) (write (w .reload .lent) (w .reload .address) (w .reload .byte)) ∙ cart₁
 
   cart₃ : armed b w .cart ≡ b .cart
-  cart₃ = next-keeps-cart (reloaded b w) (write (w .third) (w .toEnable) (w .enableByte)) ∙ cart₂
+  cart₃ = next-keeps-cart (reloaded b w) (write (w .enable .lent) (w .enable .address) (w .enable .byte)) ∙ cart₂
 
-  irq₁ : latched b w .mmc3 .irq ≡ record { enabled = b .mmc3 .irq .enabled; latch = w .latch; counter = b .mmc3 .irq .counter; reload = b .mmc3 .irq .reload }
-  irq₁ = ap irqOf (accepted-irq b ok is-mmc3 (w .first) (w .toLatch) (w .latch) (p .latch)) ∙ latches (b .mmc3) (w .latch) (w .toLatch) (p .is-latch)
+  irq₁ : latched b w .mmc3 .irq ≡ record { enabled = b .mmc3 .irq .enabled; latch = w .latch .byte; counter = b .mmc3 .irq .counter; reload = b .mmc3 .irq .reload }
+  irq₁ = ap irqOf (accepted-irq b ok is-mmc3 (w .latch .lent) (w .latch .address) (w .latch .byte) (p .latch)) ∙ latches (b .mmc3) (w .latch .byte) (w .latch .address) (p .is-latch)
 
-  irq₂ : reloaded b w .mmc3 .irq ≡ record { enabled = b .mmc3 .irq .enabled; latch = w .latch; counter = b .mmc3 .irq .counter; reload = true }
+  irq₂ : reloaded b w .mmc3 .irq ≡ record { enabled = b .mmc3 .irq .enabled; latch = w .latch .byte; counter = b .mmc3 .irq .counter; reload = true }
   irq₂ =
-      ap irqOf (accepted-irq (latched b w) ok₁ (ap (λ (c : Cartridge). c .mapper) cart₁ ∙ is-mmc3) (w .second) (w .toReload) (w .reloadByte) (p .reload))
-      ∙ reloads (latched b w .mmc3) (w .reloadByte) (w .toReload) (p .is-reload)
+      ap irqOf (accepted-irq (latched b w) ok₁ (ap (λ (c : Cartridge). c .mapper) cart₁ ∙ is-mmc3) (w .reload .lent) (w .reload .address) (w .reload .byte) (p .reload))
+      ∙ reloads (latched b w .mmc3) (w .reload .byte) (w .reload .address) (p .is-reload)
       ∙ (λ i. record { enabled = irq₁ i .enabled; latch = irq₁ i .latch; counter = irq₁ i .counter; reload = true })
 
-  irq₃ : armed b w .mmc3 .irq ≡ ready (w .latch) (b .mmc3 .irq .counter)
+  irq₃ : armed b w .mmc3 .irq ≡ ready (w .latch .byte) (b .mmc3 .irq .counter)
   irq₃ =
-      ap irqOf (accepted-irq (reloaded b w) ok₂ (ap (λ (c : Cartridge). c .mapper) cart₂ ∙ is-mmc3) (w .third) (w .toEnable) (w .enableByte) (p .enable))
-      ∙ enables (reloaded b w .mmc3) (w .enableByte) (w .toEnable) (p .is-enable)
+      ap irqOf (accepted-irq (reloaded b w) ok₂ (ap (λ (c : Cartridge). c .mapper) cart₂ ∙ is-mmc3) (w .enable .lent) (w .enable .address) (w .enable .byte) (p .enable))
+      ∙ enables (reloaded b w .mmc3) (w .enable .byte) (w .enable .address) (p .is-enable)
       ∙ (λ i. record { enabled = true; latch = irq₂ i .latch; counter = irq₂ i .counter; reload = irq₂ i .reload })
 
   mapper₃ : armed b w .cart .mapper ≡ Mmc3
@@ -270,19 +268,8 @@ unfolding after
 after-alike r [] = r
 after-alike r (c ∷ cs) = after-alike (next-alike r c) cs
 
--- boards of one cartridge after any two histories
-pub any-two-histories : (c : Cartridge) → couldLoad c ≡ true → c .mapper ≡ Mmc3 → (xs ys : List Call) → OneImage (after (startOf c) xs) (after (startOf c) ys)
-unfolding startOf
-any-two-histories c h e xs ys =
-    record {
-      cart = run-keeps-cart (startOf c) xs ∙ sym (run-keeps-cart (startOf c) ys);
-      is-mmc3 = ap (λ (x : Cartridge). x .mapper) (run-keeps-cart (startOf c) xs) ∙ e;
-      first = run-in-range (startOf c) xs (start-in-range c h);
-      second = run-in-range (startOf c) ys (start-in-range c h);
-    }
-
 -- from that clock on every IRQ answer is the same, in either mode, under the same calls
-pub mmc3-settles : (b d : Board) → OneImage b d → (w u : Arming) → w .latch ≡ u .latch → Accepts b w → Accepts d u → (cs ds : List Call) → SameCalls cs ds
+pub mmc3-settles : (b d : Board) → OneImage Mmc3 b d → (w u : Arming) → w .latch .byte ≡ u .latch .byte → Accepts b w → Accepts d u → (cs ds : List Call) → SameCalls cs ds
     → Settles (armed b w) (armed d u) cs ds
 mmc3-settles b d one w u latch p q cs ds same-calls =
     record {
@@ -293,27 +280,27 @@ mmc3-settles b d one w u latch p q cs ds same-calls =
     }
   where
     mp : d .cart .mapper ≡ Mmc3
-    mp = ap (λ (c : Cartridge). c .mapper) (sym (one .cart)) ∙ one .is-mmc3
+    mp = ap (λ (c : Cartridge). c .mapper) (sym (one .cart)) ∙ one .mapper
 
     carts : armed b w .cart ≡ armed d u .cart
-    carts = cart₃ b (one .first) (one .is-mmc3) w p ∙ one .cart ∙ sym (cart₃ d (one .second) mp u q)
+    carts = cart₃ b (one .first) (one .mapper) w p ∙ one .cart ∙ sym (cart₃ d (one .second) mp u q)
 
     clocks : mmc3-clock.clockIn (armed b w .cart .mode) (armed b w .mmc3 .irq) ≡ mmc3-clock.clockIn (armed d u .cart .mode) (armed d u .mmc3 .irq)
     clocks =
-        ap (mmc3-clock.clockIn (armed b w .cart .mode)) (irq₃ b (one .first) (one .is-mmc3) w p)
-        ∙ settled (armed b w .cart .mode) (w .latch) (b .mmc3 .irq .counter) (d .mmc3 .irq .counter)
+        ap (mmc3-clock.clockIn (armed b w .cart .mode)) (irq₃ b (one .first) (one .mapper) w p)
+        ∙ settled (armed b w .cart .mode) (w .latch .byte) (b .mmc3 .irq .counter) (d .mmc3 .irq .counter)
         ∙ ap (λ (n : ℕ). mmc3-clock.clockIn (armed b w .cart .mode) (ready n (d .mmc3 .irq .counter))) latch
-        ∙ ap (λ (c : Cartridge). mmc3-clock.clockIn (c .mode) (ready (u .latch) (d .mmc3 .irq .counter))) carts
+        ∙ ap (λ (c : Cartridge). mmc3-clock.clockIn (c .mode) (ready (u .latch .byte) (d .mmc3 .irq .counter))) carts
         ∙ sym (ap (mmc3-clock.clockIn (armed d u .cart .mode)) (irq₃ d (one .second) mp u q))
 
     mb : armed b w .cart .mapper ≡ Mmc3
-    mb = mapper₃ b (one .first) (one .is-mmc3) w p
+    mb = mapper₃ b (one .first) (one .mapper) w p
 
     md : armed d u .cart .mapper ≡ Mmc3
     md = mapper₃ d (one .second) mp u q
 
     ob : inRange (armed b w) ≡ true
-    ob = ok₃ b (one .first) (one .is-mmc3) w p
+    ob = ok₃ b (one .first) (one .mapper) w p
 
     od : inRange (armed d u) ≡ true
     od = ok₃ d (one .second) mp u q

@@ -7,15 +7,18 @@ use mathlib.Core.List.{List, [], _∷_}
 use lib.ListN.{replicate}
 use Rattle.common.specs.declared.Mode.{Mode}
 use Rattle.common.specs.declared.Mode.the-variants.{House, Board as OnBoard}
+use Rattle.cartridge.specs.declared.MapperType.the-variants.{Mmc3}
 use Rattle.boards.specs.Write.{withMmc3}
 use Rattle.boards.specs.Runs.{Lent, Call, after}
-use Rattle.boards.specs.Runs.Call.{write, clock}
+use Rattle.boards.specs.Runs.Call.{read, write, clock}
 use Rattle.boards.specs.declared.Board.{Board}
 use Rattle.boards.specs.declared.ClockAnswer.{ClockAnswer}
 use Rattle.boards.specs.declared.ClockAnswer.the-variants.{No, Yes}
+use Rattle.laws.specs.Calls.{OneImage, SameCalls}
 use Rattle.laws.specs.Loads.{accepts}
 use Rattle.laws.specs.PLines.{mmc3 as mmc3-image, ram, loadOf}
-use Rattle.laws.specs.SettlesMmc3.{OneImage, irqAnswers, Arming, Accepts}
+use Rattle.laws.specs.SettlesMmc3.{irqAnswers, Arming, armed, Accepts, Settles}
+use Rattle.laws.proofs.SettlesMmc3.{mmc3-settles}
 use Rattle.laws.proofs.Opened.{opened}
 
 -- two boards that meet all this: one as it is loaded, and one in the midst of a game
@@ -42,21 +45,15 @@ used mode =
 abbrev arming : Lent → Arming
 arming l =
     record {
-      latch = 2;
-      toLatch = 0xC000;
-      toReload = 0xC001;
-      toEnable = 0xE001;
-      reloadByte = 0;
-      enableByte = 0;
-      first = l;
-      second = l;
-      third = l;
+      latch = record { lent = l; address = 0xC000; byte = 2 };
+      reload = record { lent = l; address = 0xC001; byte = 0 };
+      enable = record { lent = l; address = 0xE001; byte = 0 };
     }
 
-pub met-image : (mode : Mode) → OneImage (fresh mode) (used mode)
+pub met-image : (mode : Mode) → OneImage Mmc3 (fresh mode) (used mode)
 unfolding opened
-met-image House = record { cart = refl; is-mmc3 = refl; first = refl; second = refl }
-met-image OnBoard = record { cart = refl; is-mmc3 = refl; first = refl; second = refl }
+met-image House = record { cart = refl; mapper = refl; first = refl; second = refl }
+met-image OnBoard = record { cart = refl; mapper = refl; first = refl; second = refl }
 
 pub met-fresh : (mode : Mode) → Accepts (fresh mode) (arming lent)
 unfolding opened
@@ -67,6 +64,18 @@ pub met-used : (mode : Mode) → Accepts (used mode) (arming others)
 unfolding opened
 met-used House = record { is-latch = refl; is-reload = refl; is-enable = refl; latch = refl; reload = refl; enable = refl }
 met-used OnBoard = record { is-latch = refl; is-reload = refl; is-enable = refl; latch = refl; reload = refl; enable = refl }
+
+-- calls for both: a refused write, a read, a clock, and another latch
+abbrev calls : Lent → List Call
+calls l = write (record { image = l .image; prg = []; chr = l .chr }) 0xE000 0 ∷ read l 0x8000 ∷ clock ∷ write l 0xC000 5 ∷ []
+
+pub met-calls : SameCalls (calls lent) (calls others)
+met-calls = refl
+
+-- so the two agree
+pub met : (mode : Mode) → Settles (armed (fresh mode) (arming lent)) (armed (used mode) (arming others)) (calls lent) (calls others)
+met mode =
+    mmc3-settles (fresh mode) (used mode) (met-image mode) (arming lent) (arming others) refl (met-fresh mode) (met-used mode) (calls lent) (calls others) met-calls
 
 -- what the two boards answer to clocks after a run that falls short by one write
 abbrev apart : Mode → List Call → List Call → List ClockAnswer → List ClockAnswer → Type 0
