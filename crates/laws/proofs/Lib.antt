@@ -15,6 +15,7 @@ pub mod Ranges
 pub mod Within
 pub mod Useless
 pub mod Choices
+pub mod Loads
 pub mod Histories
 pub mod SettlesMmc3
 pub mod SettlesMmc3Met

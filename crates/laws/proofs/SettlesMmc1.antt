@@ -26,16 +26,16 @@ use Rattle.mmc1.specs.declared.Register.the-variants.{Control, Chr0, Chr1, Prg}
 use Rattle.mmc1.specs.declared.Serial.{Serial}
 use Rattle.boards.specs.Range.{inRange, screensFit, mirroringFits, registersFit}
 use Rattle.boards.specs.Write.{nextMirroring}
-use Rattle.boards.specs.Runs.{Lent, Call, next, after}
+use Rattle.boards.specs.Runs.{Call, next, after}
 use Rattle.boards.specs.Runs.Call.{read, write, clock as tick}
 use Rattle.boards.specs.declared.Board.{Board}
 use Rattle.laws.specs.Calls.{OneImage, Write, SameCalls}
-use Rattle.laws.specs.Loads.{Done, isMmc1, accepts, isSerial, completes, loads}
-use Rattle.laws.specs.Loads.Done.{nothing, load}
+use Rattle.laws.specs.Loads.{isMmc1, accepts, isSerial, completes, loads}
+use Rattle.laws.specs.Loads.Done.{load}
 use Rattle.laws.specs.SettlesMmc1.{Clears, cleared, doneAt, isSerialWrite, serialWrites, Settled, Agree, Settles}
 use Rattle.laws.proofs.Positions.{same-after, same-loads, Kept, Makes, Any, once, twice}
 use Rattle.laws.proofs.Ranges.{next-in-range, next-keeps-cart, run-in-range, run-keeps-cart}
-use Rattle.laws.proofs.Mmc1Moves.{Move, no-load, filled, move, serialAfter, prgModeAfter, chrModeAfter, chr0Stored, chr1Stored, chr0After, chr1After, bankAfter, asks, boardAfter, next-is, done, completes-is, Common, by-move, next-common, one-done}
+use Rattle.laws.proofs.Mmc1Moves.{Move, no-load, chosen, filled, move, serialAfter, prgModeAfter, chrModeAfter, chr0Stored, chr1Stored, chr0After, chr1After, bankAfter, asks, boardAfter, next-is, done, completes-is, Common, by-move, next-common, one-done}
 use Rattle.laws.proofs.Mmc1Moves.Move.{stay, clear, enter, fill}
 use Rattle.laws.proofs.Mmc1Answers.{Alike, answers-alike, played-alike, left-alike}
 
@@ -259,10 +259,6 @@ counted b e tick = omega arith
 next-count : (b : Board) → b .cart .mapper ≡ Mmc1 → (c : Call) → next b c .mmc1 .serial .count ≤ b .mmc1 .serial .count + cond (isSerialWrite b c) 1 0
 next-count b e c = subst⁻¹ (λ (x : Board). x .mmc1 .serial .count ≤ b .mmc1 .serial .count + cond (isSerialWrite b c) 1 0) (next-is b e c) (counted b e c)
 
-chosen : (t : Bool) (w r : Register) (u v : ℕ) → cond t (load w u) nothing ≡ load r v → t ≡ true
-chosen true w r u v e = refl
-chosen false w r u v e = absurd (no-load r v e)
-
 -- what completes a load is a serial write, and four bits were there
 fifth : (b : Board) (c : Call) (r : Register) (v : ℕ) → completes b c ≡ load r v → (isSerialWrite b c ≡ true) × (4 ≤ b .mmc1 .serial .count)
 unfolding completes
@@ -282,16 +278,6 @@ fifth-at b e (c ∷ cs) zero r v h =
     rw (f .0) (omega (arith, f .1))
 fifth-at b e (c ∷ cs) (suc i) r v h =
     omega (arith, next-count b e c, fifth-at (next b c) (ap (λ (x : Cartridge). x .mapper) (next-keeps-cart b c) ∙ e) cs i r v h)
-
--- a test that fails leaves nothing
-off : (k p q r s : Bool) (x : Done) → p ≡ false → cond ((k && p && q && r) && s) x nothing ≡ nothing
-off true p q r s x e = rw e refl
-off false p q r s x e = refl
-
-pub a-refused-write-completes-nothing : (b : Board) (l : Lent) (a v : ℕ) → accepts b l a ≡ false → completes b (write l a v) ≡ nothing
-unfolding completes isSerial
-a-refused-write-completes-nothing b l a v e =
-    off (isMmc1 (b .cart .mapper)) (accepts b l a) (not (ltb a 0x8000)) (not (isSigned v)) (not (ltb (b .mmc1 .serial .count) 4)) (load (registerAt a) (shifted (b .mmc1 .serial) v)) e
 
 -- two boards of one image, cleared by bit 7 writes that they accept, and the same calls
 pub mmc1-settles : (b d : Board) → OneImage Mmc1 b d → (w u : Write) → Clears w b → Clears u d → (cs ds : List Call) → SameCalls cs ds

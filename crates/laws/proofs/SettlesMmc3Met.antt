@@ -1,6 +1,5 @@
 -- Two MMC3 boards that meet all that the theorem of `SettlesMmc3` asks, in each mode, three runs of house mode that fall short by one write and leave the boards
 -- apart, and a write that both refuse: each is computed. Assumes nothing.
-use Prim.Native.Nat.{ℕ}
 use mathlib.Core.Path.{_≡_, refl}
 use mathlib.Core.Bool.{true, false}
 use mathlib.Core.List.{List, [], _∷_}
