@@ -31,7 +31,7 @@ use Rattle.boards.specs.declared.Board.{Board}
 use Rattle.laws.specs.Calls.{OneImage, wiped, SameCalls}
 use Rattle.laws.specs.Loads.{isAccepted, accepts}
 use Rattle.laws.specs.SettlesMmc3.{isLatch, isReload, isEnable, irqAnswers, Arming, latched, reloaded, armed, Accepts, Settles}
-use Rattle.laws.proofs.Positions.{wiped-next, same-after}
+use Rattle.laws.proofs.Positions.{same-accepts, wiped-next, same-after}
 use Rattle.laws.proofs.Ranges.{next-in-range, next-keeps-cart}
 use Rattle.laws.proofs.Cases.{alike}
 use Rattle.laws.proofs.Accepting.{board-alike, accepted-alike, after-write}
@@ -274,9 +274,10 @@ pub mmc3-settles : (b d : Board) → OneImage Mmc3 b d → (w u : Arming) → w 
 mmc3-settles b d one w u latch p q cs ds same-calls =
     record {
       irq-answers-agree = cons-alike said (answers-alike onward cs ∙ same-irq (next (armed d u) tick) cs ds same-calls);
-      both-refuse-or-neither = λ l a.
+      both-refuse-or-neither = λ l k e a.
           both-accept (after-alike onward cs) a l
-          ∙ ap (λ (x : Board). accepts x l a) (same-after (next (armed d u) tick) cs ds same-calls);
+          ∙ ap (λ (x : Board). accepts x l a) (same-after (next (armed d u) tick) cs ds same-calls)
+          ∙ same-accepts (after (next (armed d u) tick) ds) l k e a;
     }
   where
     mp : d .cart .mapper ≡ Mmc3

@@ -3,6 +3,7 @@
 use mathlib.Core.Path.{_≡_, refl}
 use mathlib.Core.Bool.{true, false}
 use mathlib.Core.List.{List, [], _∷_}
+use native.Mathlib.Omega.{arith}
 use lib.ListN.{replicate}
 use Rattle.common.specs.declared.Mode.{Mode}
 use Rattle.common.specs.declared.Mode.the-variants.{House, Board as OnBoard}
@@ -13,10 +14,11 @@ use Rattle.boards.specs.Runs.Call.{read, write, clock}
 use Rattle.boards.specs.declared.Board.{Board}
 use Rattle.boards.specs.declared.ClockAnswer.{ClockAnswer}
 use Rattle.boards.specs.declared.ClockAnswer.the-variants.{No, Yes}
-use Rattle.laws.specs.Calls.{OneImage, SameCalls}
+use Rattle.laws.specs.Calls.{History, reached, OneImage, SameCalls}
 use Rattle.laws.specs.Loads.{accepts}
 use Rattle.laws.specs.PLines.{mmc3 as mmc3-image, ram, loadOf}
 use Rattle.laws.specs.SettlesMmc3.{irqAnswers, Arming, armed, Accepts, Settles}
+use Rattle.laws.proofs.Histories.{any-two-histories}
 use Rattle.laws.proofs.SettlesMmc3.{mmc3-settles}
 use Rattle.laws.proofs.Opened.{opened}
 
@@ -67,6 +69,16 @@ met-used OnBoard = record { is-latch = refl; is-reload = refl; is-enable = refl;
 -- calls for both: a refused write, a read, a clock, and another latch
 abbrev calls : Lent → List Call
 calls l = write (record { image = l .image; prg = []; chr = l .chr }) 0xE000 0 ∷ read l 0x8000 ∷ clock ∷ write l 0xC000 5 ∷ []
+
+-- a history of that image with any calls; two such leave boards of one image
+pub met-history : (mode : Mode) → List Call → History mode mmc3-image
+unfolding opened
+met-history House cs = record { prg = ram; chr = ram; accepted = refl; calls = cs }
+met-history OnBoard cs = record { prg = ram; chr = ram; accepted = refl; calls = cs }
+
+pub met-histories : (mode : Mode) → OneImage Mmc3 (reached (met-history mode [])) (reached (met-history mode (calls lent)))
+unfolding opened
+met-histories mode = any-two-histories mode mmc3-image (omega arith) (omega arith) Mmc3 refl (met-history mode []) (met-history mode (calls lent))
 
 pub met-calls : SameCalls (calls lent) (calls others)
 met-calls = refl

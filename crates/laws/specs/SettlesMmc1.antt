@@ -14,7 +14,7 @@ use Rattle.laws.specs.Calls.{Write, Event, played, leftAfter}
 use Rattle.laws.specs.Loads.{Done, accepts, isSerial, loads}
 use Rattle.laws.specs.Loads.Done.{nothing, load}
 
--- the board accepts it, and it is "a write with bit 7 set to 8000-FFFF"
+-- the board accepts the write, and it is "a write with bit 7 set to 8000-FFFF"
 pub record Clears (w : Write) (b : Board) : Type 0 where
   pub to-8000-FFFF : 0x8000 ≤ w .address
   pub bit-7 : isSigned (w .byte) ≡ true
@@ -76,7 +76,7 @@ pub record Settles (b d : Board) (cs ds : List Call) : Type 0 where
   pub none-before-the-fifth : (i : ℕ) (r : Register) → LoadsAt b cs r i → 5 ≤ serialWrites b (take (i + 1) cs)
   -- "Once there have been a control load, ..": "the boards agree in all that answers depend on"
   pub the-boards-agree : Settled b cs → Agree (after b cs) (after d ds)
-  -- "so with equal RAM bytes all later answers agree (reads with their refusals, notices, clocks)": one lot of RAM bytes is lent to both, and goes on as each leaves it
+  -- "so with equal RAM bytes all later answers agree (reads with their refusals, notices, clocks)": each event is lent what the one before left
   pub later-answers-agree : Settled b cs → (l : Lent) (es : List Event) → played (after b cs) l es ≡ played (after d ds) l es
   -- and the RAM bytes stay equal
   pub rams-stay-equal : Settled b cs → (l : Lent) (es : List Event) → leftAfter (after b cs) l es ≡ leftAfter (after d ds) l es

@@ -9,7 +9,7 @@ use Rattle.boards.specs.Runs.{Lent, Call, next, after}
 use Rattle.boards.specs.Runs.Call.{read, write, clock}
 use Rattle.boards.specs.declared.Board.{Board}
 use Rattle.boards.specs.declared.ClockAnswer.{ClockAnswer}
-use Rattle.laws.specs.Calls.{Write}
+use Rattle.laws.specs.Calls.{Write, wipedLent}
 use Rattle.laws.specs.Loads.{accepts}
 
 -- an even write to C000-DFFF
@@ -31,7 +31,7 @@ irqAnswers b (read l a ∷ cs) = irqAnswers (next b (read l a)) cs
 irqAnswers b (write l a v ∷ cs) = irqAnswers (next b (write l a v)) cs
 irqAnswers b (clock ∷ cs) = clocks.clock b .answer ∷ irqAnswers (next b clock) cs
 
--- the three writes
+-- the three writes, straight after one another
 pub record Arming : Type 0 where
   pub latch : Write
   pub reload : Write
@@ -49,7 +49,7 @@ reloaded b w = next (latched b w) (write (w .reload .lent) (w .reload .address) 
 abbrev pub armed : Board → Arming → Board
 armed b w = next (reloaded b w) (write (w .enable .lent) (w .enable .address) (w .enable .byte))
 
--- they go to the latch, the reload mark and the enable, straight after one another, and the board accepts each; a clock of a board in range is never refused
+-- they go to the latch, the reload mark and the enable, and the board accepts each; the clock has no line: a clock of a board in range is never refused
 pub record Accepts (b : Board) (w : Arming) : Type 0 where
   pub is-latch : isLatch (w .latch .address) ≡ true
   pub is-reload : isReload (w .reload .address) ≡ true
@@ -63,4 +63,4 @@ pub record Settles (b d : Board) (cs ds : List Call) : Type 0 where
   -- "agree on every IRQ answer from that clock on"
   pub irq-answers-agree : irqAnswers b (clock ∷ cs) ≡ irqAnswers d (clock ∷ ds)
   -- a later write, so too the acknowledging one (14), is refused on both or on neither
-  pub both-refuse-or-neither : (l : Lent) (a : ℕ) → accepts (after (next b clock) cs) l a ≡ accepts (after (next d clock) ds) l a
+  pub both-refuse-or-neither : (l k : Lent) → wipedLent l ≡ wipedLent k → (a : ℕ) → accepts (after (next b clock) cs) l a ≡ accepts (after (next d clock) ds) k a
