@@ -15,7 +15,10 @@ pub mod Ranges
 pub mod Within
 pub mod Useless
 pub mod Choices
+pub mod Loads
+pub mod Histories
 pub mod SettlesMmc3
+pub mod SettlesMmc3Met
 pub mod SettlesMmc1
 pub mod SettlesMmc1Met
 pub mod ControlBit4

@@ -18,25 +18,27 @@ use Rattle.mmc1.specs.Read as mmc1
 use Rattle.mmc1.specs.Write.{written}
 use Rattle.mmc1.specs.declared.Mmc1 as mmc1-type
 use Rattle.boards.specs.Range.{inRange, ramsFit, guarded}
-use Rattle.boards.specs.Read as reads
+use Rattle.boards.specs.Read as read-call
 use Rattle.boards.specs.Write.{writePlaceOn, writePlace, againstIn, nextMirroring, notice, turned, mmc1Written, movedOn, moved, writtenAs, landing}
-use Rattle.boards.specs.Clock as clocks
-use Rattle.boards.specs.Runs.{Lent, Call, next, answer, prgAfter, chrAfter, after, answers}
+use Rattle.boards.specs.Clock as ticks
+use Rattle.boards.specs.Runs.{Lent, Call, next, answer, prgAfter, chrAfter, answers}
 use Rattle.boards.specs.Runs.Call.{read, write, clock}
 use Rattle.boards.specs.Runs.Answer.{toRead, toWrite, toClock}
 use Rattle.boards.specs.declared.Board.{Board}
 use Rattle.boards.specs.declared.ClockAnswer.the-variants.{No}
 use Rattle.boards.specs.declared.WriteAnswer.{WriteAnswer}
 use Rattle.boards.specs.declared.WriteAnswer.the-variants.{Refused as NotWritten}
+use Rattle.laws.specs.Calls.{Event, call, left, played, leftAfter}
+use Rattle.laws.specs.Calls.Event.{reads, writes, clocks}
 use Rattle.laws.specs.SettlesMmc1.{Agree}
 use Rattle.laws.proofs.Accepting.{loaded-alike}
 use Rattle.laws.proofs.Mmc1Moves.{move, asks, mmc1After, Common, by-move, next-common}
 
 -- where reads and writes land
 module _ (b : Board) (is-mmc1 : b .cart .mapper ≡ Mmc1) where
-  read-place : (a : ℕ) → reads.readPlace b a ≡ mmc1.readPlace (b .mmc1) (b .cart) a
-  unfolding reads.readPlace reads.readPlaceOn
-  read-place a = subst⁻¹ (λ (k : MapperType). reads.readPlaceOn k b a ≡ mmc1.readPlace (b .mmc1) (b .cart) a) is-mmc1 refl
+  read-place : (a : ℕ) → read-call.readPlace b a ≡ mmc1.readPlace (b .mmc1) (b .cart) a
+  unfolding read-call.readPlace read-call.readPlaceOn
+  read-place a = subst⁻¹ (λ (k : MapperType). read-call.readPlaceOn k b a ≡ mmc1.readPlace (b .mmc1) (b .cart) a) is-mmc1 refl
 
   write-place : (a : ℕ) → writePlace b a ≡ mmc1.writePlace (b .mmc1) (b .cart) a
   unfolding writePlace writePlaceOn
@@ -77,9 +79,9 @@ said-is b (PrgRam i) v a = refl
 said-is b (ChrRam i) v a = refl
 said-is b Zero v a = refl
 
-clock-answer : (b : Board) → inRange b ≡ true → b .cart .mapper ≡ Mmc1 → clocks.clock b .answer ≡ No
-unfolding clocks.clock clocks.ticked clocks.tickedOn clocks.unmoved
-clock-answer b ok e = rw ok (subst⁻¹ (λ (k : MapperType). clocks.tickedOn k b .answer ≡ No) e refl)
+clock-answer : (b : Board) → inRange b ≡ true → b .cart .mapper ≡ Mmc1 → ticks.clock b .answer ≡ No
+unfolding ticks.clock ticks.ticked ticks.tickedOn ticks.unmoved
+clock-answer b ok e = rw ok (subst⁻¹ (λ (k : MapperType). ticks.tickedOn k b .answer ≡ No) e refl)
 
 -- two boards that agree
 pub record Alike (b d : Board) : Type 0 where
@@ -106,7 +108,7 @@ module _ {b d : Board} (r : Alike b d) where
       (write-place b (r .is-mmc1) a ∙ ap₂ (λ (m : mmc1-type.Mmc1) (c : Cartridge). mmc1.writePlace m c a) (r .agree .mmc1) cart ∙ sym (write-place d second-mmc1 a))
 
   answer-alike : (c : Call) → answer b c ≡ answer d c
-  unfolding answer reads.read
+  unfolding answer read-call.read
   answer-alike (read l a) =
       let place = read-place b (r .is-mmc1) a ∙ ap₂ (λ (m : mmc1-type.Mmc1) (c : Cartridge). mmc1.readPlace m c a) (r .agree .mmc1) cart ∙ sym (read-place d second-mmc1 a) in
       let fits = loaded-alike b d cart (r .first) (r .second) (length (l .image)) in
@@ -148,18 +150,24 @@ module _ {b d : Board} (r : Alike b d) where
         second = n .second;
       }
 
-pub after-alike : {b d : Board} → Alike b d → (cs : List Call) → Alike (after b cs) (after d cs)
-unfolding after
-after-alike r [] = r
-after-alike r (c ∷ cs) = after-alike (next-alike r c) cs
-
 pub answers-alike : {b d : Board} → Alike b d → (cs : List Call) → answers b cs ≡ answers d cs
 unfolding answers
 answers-alike r [] = refl
 answers-alike r (c ∷ cs) = ap₂ _∷_ (answer-alike r c) (answers-alike (next-alike r c) cs)
 
-pub prg-rams-alike : {b d : Board} → Alike b d → (cs : List Call) (c : Call) → prgAfter (after b cs) c ≡ prgAfter (after d cs) c
-prg-rams-alike r cs c = prg-alike (after-alike r cs) c
+-- lent one lot of RAM, they leave one lot
+left-one : {b d : Board} → Alike b d → (l : Lent) (e : Event) → left b l e ≡ left d l e
+left-one r l (reads a) = refl
+left-one r l (writes a v) = λ i. record { image = l .image; prg = prg-alike r (write l a v) i; chr = chr-alike r (write l a v) i }
+left-one r l clocks = refl
 
-pub chr-rams-alike : {b d : Board} → Alike b d → (cs : List Call) (c : Call) → chrAfter (after b cs) c ≡ chrAfter (after d cs) c
-chr-rams-alike r cs c = chr-alike (after-alike r cs) c
+pub played-alike : {b d : Board} → Alike b d → (l : Lent) (es : List Event) → played b l es ≡ played d l es
+played-alike r l [] = refl
+played-alike {b} {d} r l (e ∷ es) =
+    ap₂ _∷_ (answer-alike r (call l e))
+    (played-alike (next-alike r (call l e)) (left b l e) es ∙ ap (λ (k : Lent). played (next d (call l e)) k es) (left-one r l e))
+
+pub left-alike : {b d : Board} → Alike b d → (l : Lent) (es : List Event) → leftAfter b l es ≡ leftAfter d l es
+left-alike r l [] = refl
+left-alike {b} {d} r l (e ∷ es) =
+    left-alike (next-alike r (call l e)) (left b l e) es ∙ ap (λ (k : Lent). leftAfter (next d (call l e)) k es) (left-one r l e)

@@ -149,7 +149,7 @@ boardAfter k m b =
     }
 
 -- a load moves each register so
-load-is : (m : Mode) (r : Regs) (w : Register) (v : ℕ) → loadIn m r w v ≡ regsAfter (fill w v) m r
+pub load-is : (m : Mode) (r : Regs) (w : Register) (v : ℕ) → loadIn m r w v ≡ regsAfter (fill w v) m r
 unfolding loadIn houseLoad boardLoad houseChr0 houseChr1
 load-is House r Control v = refl
 load-is House r Chr0 v = alike (λ (x : Regs) (y : ℕ). x ≡ record { prgmode = r .prgmode; chrmode = r .chrmode; chr0 = y; chr1 = r .chr1; prg = r .prg }) (eqb (r .chrmode) 0) refl refl
@@ -160,7 +160,7 @@ load-is OnBoard r Chr0 v = refl
 load-is OnBoard r Chr1 v = refl
 load-is OnBoard r Prg v = refl
 
-reset-is : (m : Mode) (r : Regs) → reset m r ≡ regsAfter clear m r
+pub reset-is : (m : Mode) (r : Regs) → reset m r ≡ regsAfter clear m r
 unfolding reset
 reset-is House r = refl
 reset-is OnBoard r = refl
@@ -225,6 +225,10 @@ completes-is b e tick = refl
 
 pub no-load : (r : Register) (v : ℕ) → nothing ≡ load r v → ⊥
 no-load r v e = let z : _≡_ {A = ℕ} 0 1 = cc in omega arith
+
+pub chosen : (t : Bool) (w r : Register) (u v : ℕ) → cond t (load w u) nothing ≡ load r v → t ≡ true
+chosen true w r u v e = refl
+chosen false w r u v e = absurd (no-load r v e)
 
 -- a completed load is the move that fills its register
 pub filled : (k : Move) (w : Register) (v : ℕ) → done k ≡ load w v → k ≡ fill w v

@@ -13,9 +13,10 @@ use Rattle.boards.specs.Write.{writePlace, writtenAs, landing}
 use Rattle.boards.specs.Runs.{Lent, Call, next, after}
 use Rattle.boards.specs.Runs.Call.{read, write, clock as tick}
 use Rattle.boards.specs.declared.Board.{Board}
-use Rattle.laws.specs.Loads.{isSerial, completes, loads}
+use Rattle.laws.specs.Calls.{wipedLent, wiped, SameCalls}
+use Rattle.laws.specs.Loads.{isAccepted, accepts, isSerial, completes, loads}
 use Rattle.laws.specs.Loads.Done.{load}
-use Rattle.laws.specs.SettlesMmc1.{wipedLent, wiped, SameCalls, LoadsAt}
+use Rattle.laws.specs.SettlesMmc1.{LoadsAt}
 use Rattle.laws.proofs.Mmc1Moves.{no-load}
 
 -- a write is accepted by the lengths of what it is lent
@@ -27,7 +28,11 @@ wiped-landing b l a =
     (isLoaded b (length-replicate {A = ℕ} (length (l .image)) 0 i))
     (writePlace b a)
 
-wiped-next : (b : Board) (c : Call) → next b (wiped c) ≡ next b c
+pub same-accepts : (b : Board) (l k : Lent) → wipedLent l ≡ wipedLent k → (a : ℕ) → accepts b l a ≡ accepts b k a
+same-accepts b l k e a =
+    sym (ap isAccepted (wiped-landing b l a)) ∙ ap (λ (x : Lent). accepts b x a) e ∙ ap isAccepted (wiped-landing b k a)
+
+pub wiped-next : (b : Board) (c : Call) → next b (wiped c) ≡ next b c
 unfolding next
 wiped-next b (read l a) = refl
 wiped-next b (write l a v) = ap (λ (p : Place). writtenAs b p v a .board) (wiped-landing b l a)

@@ -25,19 +25,19 @@ use Rattle.mmc1.specs.declared.Register.{Register}
 use Rattle.mmc1.specs.declared.Register.the-variants.{Control, Chr0, Chr1, Prg}
 use Rattle.mmc1.specs.declared.Serial.{Serial}
 use Rattle.boards.specs.Range.{inRange, screensFit, mirroringFits, registersFit}
-use Rattle.boards.specs.Start.{startOf}
 use Rattle.boards.specs.Write.{nextMirroring}
-use Rattle.boards.specs.Runs.{Lent, Call, next, after}
+use Rattle.boards.specs.Runs.{Call, next, after}
 use Rattle.boards.specs.Runs.Call.{read, write, clock as tick}
 use Rattle.boards.specs.declared.Board.{Board}
-use Rattle.laws.specs.Loads.{Done, isMmc1, accepts, isSerial, completes, loads}
-use Rattle.laws.specs.Loads.Done.{nothing, load}
-use Rattle.laws.specs.SettlesMmc1.{OneImage, Write, Clears, cleared, SameCalls, doneAt, isSerialWrite, serialWrites, Settled, Agree, Settles}
+use Rattle.laws.specs.Calls.{OneImage, Write, SameCalls}
+use Rattle.laws.specs.Loads.{isMmc1, accepts, isSerial, completes, loads}
+use Rattle.laws.specs.Loads.Done.{load}
+use Rattle.laws.specs.SettlesMmc1.{Clears, cleared, doneAt, isSerialWrite, serialWrites, Settled, Agree, Settles}
 use Rattle.laws.proofs.Positions.{same-after, same-loads, Kept, Makes, Any, once, twice}
-use Rattle.laws.proofs.Ranges.{next-in-range, next-keeps-cart, run-in-range, run-keeps-cart, start-in-range}
-use Rattle.laws.proofs.Mmc1Moves.{Move, no-load, filled, move, serialAfter, prgModeAfter, chrModeAfter, chr0Stored, chr1Stored, chr0After, chr1After, bankAfter, asks, boardAfter, next-is, done, completes-is, Common, by-move, next-common, one-done}
+use Rattle.laws.proofs.Ranges.{next-in-range, next-keeps-cart, run-in-range, run-keeps-cart}
+use Rattle.laws.proofs.Mmc1Moves.{Move, no-load, chosen, filled, move, serialAfter, prgModeAfter, chrModeAfter, chr0Stored, chr1Stored, chr0After, chr1After, bankAfter, asks, boardAfter, next-is, done, completes-is, Common, by-move, next-common, one-done}
 use Rattle.laws.proofs.Mmc1Moves.Move.{stay, clear, enter, fill}
-use Rattle.laws.proofs.Mmc1Answers.{Alike, answers-alike, prg-rams-alike, chr-rams-alike}
+use Rattle.laws.proofs.Mmc1Answers.{Alike, answers-alike, played-alike, left-alike}
 
 -- the same moves complete the same loads
 one-loads : {b d : Board} → Common b d → (cs : List Call) → loads b cs ≡ loads d cs
@@ -225,16 +225,16 @@ emptied w b e p =
     ap (λ (x : Board). x .mmc1 .serial) (next-is b e (write (w .lent) (w .address) (w .byte)))
     ∙ ap (λ (k : Move). serialAfter k (b .mmc1 .serial)) (clear-move w b p)
 
-start-common : (b d : Board) → OneImage b d → (w u : Write) → Clears w b → Clears u d → Common (cleared w b) (cleared u d)
+start-common : (b d : Board) → OneImage Mmc1 b d → (w u : Write) → Clears w b → Clears u d → Common (cleared w b) (cleared u d)
 start-common b d one w u p q =
     let c = write (w .lent) (w .address) (w .byte) in
     let e = write (u .lent) (u .address) (u .byte) in
     record {
       cart = next-keeps-cart b c ∙ one .cart ∙ sym (next-keeps-cart d e);
-      is-mmc1 = ap (λ (x : Cartridge). x .mapper) (next-keeps-cart b c) ∙ one .is-mmc1;
+      is-mmc1 = ap (λ (x : Cartridge). x .mapper) (next-keeps-cart b c) ∙ one .mapper;
       first = next-in-range b c (one .first);
       second = next-in-range d e (one .second);
-      serial = emptied w b (one .is-mmc1) p ∙ sym (emptied u d (ap (λ (x : Cartridge). x .mapper) (sym (one .cart)) ∙ one .is-mmc1) q);
+      serial = emptied w b (one .mapper) p ∙ sym (emptied u d (ap (λ (x : Cartridge). x .mapper) (sym (one .cart)) ∙ one .mapper) q);
     }
 
 -- how far a move takes the count of bits
@@ -259,10 +259,6 @@ counted b e tick = omega arith
 next-count : (b : Board) → b .cart .mapper ≡ Mmc1 → (c : Call) → next b c .mmc1 .serial .count ≤ b .mmc1 .serial .count + cond (isSerialWrite b c) 1 0
 next-count b e c = subst⁻¹ (λ (x : Board). x .mmc1 .serial .count ≤ b .mmc1 .serial .count + cond (isSerialWrite b c) 1 0) (next-is b e c) (counted b e c)
 
-chosen : (t : Bool) (w r : Register) (u v : ℕ) → cond t (load w u) nothing ≡ load r v → t ≡ true
-chosen true w r u v e = refl
-chosen false w r u v e = absurd (no-load r v e)
-
 -- what completes a load is a serial write, and four bits were there
 fifth : (b : Board) (c : Call) (r : Register) (v : ℕ) → completes b c ≡ load r v → (isSerialWrite b c ≡ true) × (4 ≤ b .mmc1 .serial .count)
 unfolding completes
@@ -283,40 +279,19 @@ fifth-at b e (c ∷ cs) zero r v h =
 fifth-at b e (c ∷ cs) (suc i) r v h =
     omega (arith, next-count b e c, fifth-at (next b c) (ap (λ (x : Cartridge). x .mapper) (next-keeps-cart b c) ∙ e) cs i r v h)
 
--- a test that fails leaves nothing
-off : (k p q r s : Bool) (x : Done) → p ≡ false → cond ((k && p && q && r) && s) x nothing ≡ nothing
-off true p q r s x e = rw e refl
-off false p q r s x e = refl
-
-pub a-refused-write-completes-nothing : (b : Board) (l : Lent) (a v : ℕ) → accepts b l a ≡ false → completes b (write l a v) ≡ nothing
-unfolding completes isSerial
-a-refused-write-completes-nothing b l a v e =
-    off (isMmc1 (b .cart .mapper)) (accepts b l a) (not (ltb a 0x8000)) (not (isSigned v)) (not (ltb (b .mmc1 .serial .count) 4)) (load (registerAt a) (shifted (b .mmc1 .serial) v)) e
-
--- boards of one cartridge after any two histories
-pub any-two-histories : (c : Cartridge) → couldLoad c ≡ true → c .mapper ≡ Mmc1 → (xs ys : List Call) → OneImage (after (startOf c) xs) (after (startOf c) ys)
-unfolding startOf
-any-two-histories c h e xs ys =
-    record {
-      cart = run-keeps-cart (startOf c) xs ∙ sym (run-keeps-cart (startOf c) ys);
-      is-mmc1 = ap (λ (x : Cartridge). x .mapper) (run-keeps-cart (startOf c) xs) ∙ e;
-      first = run-in-range (startOf c) xs (start-in-range c h);
-      second = run-in-range (startOf c) ys (start-in-range c h);
-    }
-
 -- two boards of one image, cleared by bit 7 writes that they accept, and the same calls
-pub mmc1-settles : (b d : Board) → OneImage b d → (w u : Write) → Clears w b → Clears u d → (cs ds : List Call) → SameCalls cs ds
+pub mmc1-settles : (b d : Board) → OneImage Mmc1 b d → (w u : Write) → Clears w b → Clears u d → (cs ds : List Call) → SameCalls cs ds
     → Settles (cleared w b) (cleared u d) cs ds
 mmc1-settles b d one w u p q cs ds same-calls =
     record {
       the-same-loads = one-loads common cs ∙ same-loads (cleared u d) cs ds same-calls;
       none-before-the-fifth = λ i r l.
           rw (add-one i)
-          (omega (arith, ap (λ (s : Serial). s .count) (emptied w b (one .is-mmc1) p), fifth-at (cleared w b) (common .is-mmc1) cs i r (l .bits) (l .done)));
+          (omega (arith, ap (λ (s : Serial). s .count) (emptied w b (one .mapper) p), fifth-at (cleared w b) (common .is-mmc1) cs i r (l .bits) (l .done)));
       the-boards-agree = agree;
-      later-answers-agree = λ s later. answers-alike (alike s) later;
-      later-prg-rams-agree = λ s later c. prg-rams-alike (alike s) later c;
-      later-chr-rams-agree = λ s later c. chr-rams-alike (alike s) later c;
+      later-answers-agree = λ s l es. played-alike (alike s) l es;
+      rams-stay-equal = λ s l es. left-alike (alike s) l es;
+      whatever-is-lent = λ s later. answers-alike (alike s) later;
     }
   where
     common : Common (cleared w b) (cleared u d)

@@ -7,6 +7,7 @@ use native.Mathlib.Omega.{arith}
 use lib.ListN.{replicate}
 use Rattle.common.specs.declared.Mode.{Mode}
 use Rattle.common.specs.declared.Mode.the-variants.{House, Board as OnBoard}
+use Rattle.cartridge.specs.declared.MapperType.the-variants.{Mmc1}
 use Rattle.cartridge.specs.declared.Mirroring.{Mirroring}
 use Rattle.cartridge.specs.declared.Mirroring.the-variants.{Vertical, SingleScreenUpper}
 use Rattle.cartridge.specs.declared.Refusal.the-variants.{BankPastData}
@@ -16,8 +17,10 @@ use Rattle.boards.specs.Runs.{Lent, Call, Answer, after, answers}
 use Rattle.boards.specs.Runs.Call.{read, write, clock}
 use Rattle.boards.specs.Runs.Answer.{toRead}
 use Rattle.boards.specs.declared.Board.{Board}
+use Rattle.laws.specs.Calls.{History, reached, OneImage, Write, SameCalls}
 use Rattle.laws.specs.PLines.{mmc1 as mmc1-image, ram, loadOf}
-use Rattle.laws.specs.SettlesMmc1.{OneImage, Write, Clears, cleared, SameCalls, Settled, Agree}
+use Rattle.laws.specs.SettlesMmc1.{Clears, cleared, Settled, Agree}
+use Rattle.laws.proofs.Histories.{any-two-histories}
 use Rattle.laws.proofs.SettlesMmc1.{mmc1-settles}
 use Rattle.laws.proofs.Opened.{opened}
 
@@ -62,10 +65,10 @@ calls l =
     ++ five l 0xC000 6
     ++ five l 0xA000 5
 
-pub met-image : (mode : Mode) → OneImage (fresh mode) (used mode)
+pub met-image : (mode : Mode) → OneImage Mmc1 (fresh mode) (used mode)
 unfolding opened
-met-image House = record { cart = refl; is-mmc1 = refl; first = refl; second = refl }
-met-image OnBoard = record { cart = refl; is-mmc1 = refl; first = refl; second = refl }
+met-image House = record { cart = refl; mapper = refl; first = refl; second = refl }
+met-image OnBoard = record { cart = refl; mapper = refl; first = refl; second = refl }
 
 pub met-fresh : (mode : Mode) → Clears (bit7 lent) (fresh mode)
 unfolding opened
@@ -76,6 +79,16 @@ pub met-used : (mode : Mode) → Clears (bit7 others) (used mode)
 unfolding opened
 met-used House = record { to-8000-FFFF = omega arith; bit-7 = refl; accepted = refl }
 met-used OnBoard = record { to-8000-FFFF = omega arith; bit-7 = refl; accepted = refl }
+
+-- a history of that image with any calls; two such leave boards of one image
+pub met-history : (mode : Mode) → List Call → History mode mmc1-image
+unfolding opened
+met-history House cs = record { prg = ram; chr = ram; accepted = refl; calls = cs }
+met-history OnBoard cs = record { prg = ram; chr = ram; accepted = refl; calls = cs }
+
+pub met-histories : (mode : Mode) → OneImage Mmc1 (reached (met-history mode [])) (reached (met-history mode (calls lent)))
+unfolding opened
+met-histories mode = any-two-histories mode mmc1-image (omega arith) (omega arith) Mmc1 refl (met-history mode []) (met-history mode (calls lent))
 
 pub met-calls : SameCalls (calls lent) (calls others)
 met-calls = refl

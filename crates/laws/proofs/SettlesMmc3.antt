@@ -3,7 +3,7 @@
 use Prim.Native.Nat.{ℕ, _-_, _%_, _≤_}
 use mathlib.Core.Path.{_≡_, refl, sym, ap, _∙_, subst, subst⁻¹}
 use mathlib.Core.Bool.{Bool, true, false, cond, not, _&&_}
-use mathlib.Core.List.{List, [], _∷_}
+use mathlib.Core.List.{List, [], _∷_, map}
 use native.Mathlib.Omega.{arith}
 use lib.Dec.{ltb, eqb}
 use borrow.Author.Tests.{ltb-false, not-true, le-ltb}
@@ -23,15 +23,15 @@ use Rattle.mmc3.specs.declared.Clocked.{Clocked}
 use Rattle.mmc3.specs.declared.Mmc3 as mmc3-type
 use Rattle.mmc3.specs.declared.Wrote.{Wrote}
 use Rattle.boards.specs.Range.{inRange}
-use Rattle.boards.specs.Write.{writePlaceOn, writePlace, withMmc3, moved, landing}
+use Rattle.boards.specs.Write.{writePlaceOn, writePlace, moved, landing}
 use Rattle.boards.specs.Clock.{yesNo, mmc3Ticked, tickedOn, ticked, clock}
-use Rattle.boards.specs.Runs.{Lent, Call, next}
+use Rattle.boards.specs.Runs.{Lent, Call, next, after}
 use Rattle.boards.specs.Runs.Call.{read, write, clock as tick}
 use Rattle.boards.specs.declared.Board.{Board}
+use Rattle.laws.specs.Calls.{OneImage, wiped, SameCalls}
 use Rattle.laws.specs.Loads.{isAccepted, accepts}
-use Rattle.laws.specs.SettlesMmc3.{OneImage, isLatch, isReload, isEnable, irqAnswers, Arming, latched, reloaded, armed, Accepts}
-use Rattle.laws.specs.PLines.{mmc3 as mmc3-image, ram, loadOf}
-use Rattle.laws.proofs.Opened.{opened}
+use Rattle.laws.specs.SettlesMmc3.{isLatch, isReload, isEnable, irqAnswers, Arming, latched, reloaded, armed, Accepts, Settles}
+use Rattle.laws.proofs.Positions.{same-accepts, wiped-next, same-after}
 use Rattle.laws.proofs.Ranges.{next-in-range, next-keeps-cart}
 use Rattle.laws.proofs.Cases.{alike}
 use Rattle.laws.proofs.Accepting.{board-alike, accepted-alike, after-write}
@@ -219,124 +219,102 @@ irqOf m = m .irq
 -- the three writes leave such a unit
 module _ (b : Board) (ok : inRange b ≡ true) (is-mmc3 : b .cart .mapper ≡ Mmc3) (w : Arming) (p : Accepts b w) where
   ok₁ : inRange (latched b w) ≡ true
-  ok₁ = next-in-range b (write (w .first) (w .toLatch) (w .latch)) ok
+  ok₁ = next-in-range b (write (w .latch .lent) (w .latch .address) (w .latch .byte)) ok
 
   ok₂ : inRange (reloaded b w) ≡ true
-  ok₂ = next-in-range (latched b w) (write (w .second) (w .toReload) (w .reloadByte)) ok₁
+  ok₂ = next-in-range (latched b w) (write (w .reload .lent) (w .reload .address) (w .reload .byte)) ok₁
 
   ok₃ : inRange (armed b w) ≡ true
-  ok₃ = next-in-range (reloaded b w) (write (w .third) (w .toEnable) (w .enableByte)) ok₂
+  ok₃ = next-in-range (reloaded b w) (write (w .enable .lent) (w .enable .address) (w .enable .byte)) ok₂
 
   cart₁ : latched b w .cart ≡ b .cart
-  cart₁ = next-keeps-cart b (write (w .first) (w .toLatch) (w .latch))
+  cart₁ = next-keeps-cart b (write (w .latch .lent) (w .latch .address) (w .latch .byte))
 
   cart₂ : reloaded b w .cart ≡ b .cart
-  cart₂ = next-keeps-cart (latched b w) (write (w .second) (w .toReload) (w .reloadByte)) ∙ cart₁
+  cart₂ = next-keeps-cart (latched b w) (write (w .reload .lent) (w .reload .address) (w .reload .byte)) ∙ cart₁
 
   cart₃ : armed b w .cart ≡ b .cart
-  cart₃ = next-keeps-cart (reloaded b w) (write (w .third) (w .toEnable) (w .enableByte)) ∙ cart₂
+  cart₃ = next-keeps-cart (reloaded b w) (write (w .enable .lent) (w .enable .address) (w .enable .byte)) ∙ cart₂
 
-  irq₁ : latched b w .mmc3 .irq ≡ record { enabled = b .mmc3 .irq .enabled; latch = w .latch; counter = b .mmc3 .irq .counter; reload = b .mmc3 .irq .reload }
-  irq₁ = ap irqOf (accepted-irq b ok is-mmc3 (w .first) (w .toLatch) (w .latch) (p .latch)) ∙ latches (b .mmc3) (w .latch) (w .toLatch) (p .is-latch)
+  irq₁ : latched b w .mmc3 .irq ≡ record { enabled = b .mmc3 .irq .enabled; latch = w .latch .byte; counter = b .mmc3 .irq .counter; reload = b .mmc3 .irq .reload }
+  irq₁ = ap irqOf (accepted-irq b ok is-mmc3 (w .latch .lent) (w .latch .address) (w .latch .byte) (p .latch)) ∙ latches (b .mmc3) (w .latch .byte) (w .latch .address) (p .is-latch)
 
-  irq₂ : reloaded b w .mmc3 .irq ≡ record { enabled = b .mmc3 .irq .enabled; latch = w .latch; counter = b .mmc3 .irq .counter; reload = true }
+  irq₂ : reloaded b w .mmc3 .irq ≡ record { enabled = b .mmc3 .irq .enabled; latch = w .latch .byte; counter = b .mmc3 .irq .counter; reload = true }
   irq₂ =
-      ap irqOf (accepted-irq (latched b w) ok₁ (ap (λ (c : Cartridge). c .mapper) cart₁ ∙ is-mmc3) (w .second) (w .toReload) (w .reloadByte) (p .reload))
-      ∙ reloads (latched b w .mmc3) (w .reloadByte) (w .toReload) (p .is-reload)
+      ap irqOf (accepted-irq (latched b w) ok₁ (ap (λ (c : Cartridge). c .mapper) cart₁ ∙ is-mmc3) (w .reload .lent) (w .reload .address) (w .reload .byte) (p .reload))
+      ∙ reloads (latched b w .mmc3) (w .reload .byte) (w .reload .address) (p .is-reload)
       ∙ (λ i. record { enabled = irq₁ i .enabled; latch = irq₁ i .latch; counter = irq₁ i .counter; reload = true })
 
-  irq₃ : armed b w .mmc3 .irq ≡ ready (w .latch) (b .mmc3 .irq .counter)
+  irq₃ : armed b w .mmc3 .irq ≡ ready (w .latch .byte) (b .mmc3 .irq .counter)
   irq₃ =
-      ap irqOf (accepted-irq (reloaded b w) ok₂ (ap (λ (c : Cartridge). c .mapper) cart₂ ∙ is-mmc3) (w .third) (w .toEnable) (w .enableByte) (p .enable))
-      ∙ enables (reloaded b w .mmc3) (w .enableByte) (w .toEnable) (p .is-enable)
+      ap irqOf (accepted-irq (reloaded b w) ok₂ (ap (λ (c : Cartridge). c .mapper) cart₂ ∙ is-mmc3) (w .enable .lent) (w .enable .address) (w .enable .byte) (p .enable))
+      ∙ enables (reloaded b w .mmc3) (w .enable .byte) (w .enable .address) (p .is-enable)
       ∙ (λ i. record { enabled = true; latch = irq₂ i .latch; counter = irq₂ i .counter; reload = irq₂ i .reload })
 
   mapper₃ : armed b w .cart .mapper ≡ Mmc3
   mapper₃ = ap (λ (c : Cartridge). c .mapper) cart₃ ∙ is-mmc3
 
+wiped-irq : (b : Board) (cs : List Call) → irqAnswers b (map wiped cs) ≡ irqAnswers b cs
+wiped-irq b [] = refl
+wiped-irq b (read l a ∷ cs) = ap (λ (x : Board). irqAnswers x (map wiped cs)) (wiped-next b (read l a)) ∙ wiped-irq (next b (read l a)) cs
+wiped-irq b (write l a v ∷ cs) = ap (λ (x : Board). irqAnswers x (map wiped cs)) (wiped-next b (write l a v)) ∙ wiped-irq (next b (write l a v)) cs
+wiped-irq b (tick ∷ cs) = cons-alike refl (wiped-irq (next b tick) cs)
+
+same-irq : (b : Board) (cs ds : List Call) → SameCalls cs ds → irqAnswers b cs ≡ irqAnswers b ds
+same-irq b cs ds same = sym (wiped-irq b cs) ∙ ap (irqAnswers b) same ∙ wiped-irq b ds
+
+after-alike : {b d : Board} → Alike b d → (cs : List Call) → Alike (after b cs) (after d cs)
+unfolding after
+after-alike r [] = r
+after-alike r (c ∷ cs) = after-alike (next-alike r c) cs
+
 -- from that clock on every IRQ answer is the same, in either mode, under the same calls
-pub mmc3-settles : (b d : Board) → OneImage b d → (w : Arming) → Accepts b w → Accepts d w → (cs : List Call)
-    → irqAnswers (armed b w) (tick ∷ cs) ≡ irqAnswers (armed d w) (tick ∷ cs)
-mmc3-settles b d one w p q cs = cons-alike said (answers-alike onward cs)
+pub mmc3-settles : (b d : Board) → OneImage Mmc3 b d → (w u : Arming) → w .latch .byte ≡ u .latch .byte → Accepts b w → Accepts d u → (cs ds : List Call) → SameCalls cs ds
+    → Settles (armed b w) (armed d u) cs ds
+mmc3-settles b d one w u latch p q cs ds same-calls =
+    record {
+      irq-answers-agree = cons-alike said (answers-alike onward cs ∙ same-irq (next (armed d u) tick) cs ds same-calls);
+      both-refuse-or-neither = λ l k e a.
+          both-accept (after-alike onward cs) a l
+          ∙ ap (λ (x : Board). accepts x l a) (same-after (next (armed d u) tick) cs ds same-calls)
+          ∙ same-accepts (after (next (armed d u) tick) ds) l k e a;
+    }
   where
     mp : d .cart .mapper ≡ Mmc3
-    mp = ap (λ (c : Cartridge). c .mapper) (sym (one .cart)) ∙ one .is-mmc3
+    mp = ap (λ (c : Cartridge). c .mapper) (sym (one .cart)) ∙ one .mapper
 
-    carts : armed b w .cart ≡ armed d w .cart
-    carts = cart₃ b (one .first) (one .is-mmc3) w p ∙ one .cart ∙ sym (cart₃ d (one .second) mp w q)
+    carts : armed b w .cart ≡ armed d u .cart
+    carts = cart₃ b (one .first) (one .mapper) w p ∙ one .cart ∙ sym (cart₃ d (one .second) mp u q)
 
-    clocks : mmc3-clock.clockIn (armed b w .cart .mode) (armed b w .mmc3 .irq) ≡ mmc3-clock.clockIn (armed d w .cart .mode) (armed d w .mmc3 .irq)
+    clocks : mmc3-clock.clockIn (armed b w .cart .mode) (armed b w .mmc3 .irq) ≡ mmc3-clock.clockIn (armed d u .cart .mode) (armed d u .mmc3 .irq)
     clocks =
-        ap (mmc3-clock.clockIn (armed b w .cart .mode)) (irq₃ b (one .first) (one .is-mmc3) w p)
-        ∙ settled (armed b w .cart .mode) (w .latch) (b .mmc3 .irq .counter) (d .mmc3 .irq .counter)
-        ∙ ap (λ (c : Cartridge). mmc3-clock.clockIn (c .mode) (ready (w .latch) (d .mmc3 .irq .counter))) carts
-        ∙ sym (ap (mmc3-clock.clockIn (armed d w .cart .mode)) (irq₃ d (one .second) mp w q))
+        ap (mmc3-clock.clockIn (armed b w .cart .mode)) (irq₃ b (one .first) (one .mapper) w p)
+        ∙ settled (armed b w .cart .mode) (w .latch .byte) (b .mmc3 .irq .counter) (d .mmc3 .irq .counter)
+        ∙ ap (λ (n : ℕ). mmc3-clock.clockIn (armed b w .cart .mode) (ready n (d .mmc3 .irq .counter))) latch
+        ∙ ap (λ (c : Cartridge). mmc3-clock.clockIn (c .mode) (ready (u .latch .byte) (d .mmc3 .irq .counter))) carts
+        ∙ sym (ap (mmc3-clock.clockIn (armed d u .cart .mode)) (irq₃ d (one .second) mp u q))
 
     mb : armed b w .cart .mapper ≡ Mmc3
-    mb = mapper₃ b (one .first) (one .is-mmc3) w p
+    mb = mapper₃ b (one .first) (one .mapper) w p
 
-    md : armed d w .cart .mapper ≡ Mmc3
-    md = mapper₃ d (one .second) mp w q
+    md : armed d u .cart .mapper ≡ Mmc3
+    md = mapper₃ d (one .second) mp u q
 
     ob : inRange (armed b w) ≡ true
-    ob = ok₃ b (one .first) (one .is-mmc3) w p
+    ob = ok₃ b (one .first) (one .mapper) w p
 
-    od : inRange (armed d w) ≡ true
-    od = ok₃ d (one .second) mp w q
+    od : inRange (armed d u) ≡ true
+    od = ok₃ d (one .second) mp u q
 
-    said : clock (armed b w) .answer ≡ clock (armed d w) .answer
-    said = tick-answer (armed b w) ob mb ∙ ap (λ (c : Clocked). yesNo (c .answer)) clocks ∙ sym (tick-answer (armed d w) od md)
+    said : clock (armed b w) .answer ≡ clock (armed d u) .answer
+    said = tick-answer (armed b w) ob mb ∙ ap (λ (c : Clocked). yesNo (c .answer)) clocks ∙ sym (tick-answer (armed d u) od md)
 
-    onward : Alike (next (armed b w) tick) (next (armed d w) tick)
+    onward : Alike (next (armed b w) tick) (next (armed d u) tick)
     onward =
         record {
-          cart = next-keeps-cart (armed b w) tick ∙ carts ∙ sym (next-keeps-cart (armed d w) tick);
+          cart = next-keeps-cart (armed b w) tick ∙ carts ∙ sym (next-keeps-cart (armed d u) tick);
           is-mmc3 = ap (λ (c : Cartridge). c .mapper) (next-keeps-cart (armed b w) tick) ∙ mb;
           first = next-in-range (armed b w) tick ob;
-          second = next-in-range (armed d w) tick od;
-          irq = tick-irq (armed b w) ob mb ∙ ap (λ (c : Clocked). c .irq) clocks ∙ sym (tick-irq (armed d w) od md);
+          second = next-in-range (armed d u) tick od;
+          irq = tick-irq (armed b w) ob mb ∙ ap (λ (c : Clocked). c .irq) clocks ∙ sym (tick-irq (armed d u) od md);
         }
-
--- two boards that meet all this: one as it is loaded, and one in the midst of a game
-abbrev lent : Lent
-lent = record { image = mmc3-image; prg = ram; chr = ram }
-
-abbrev fresh : Board
-fresh = loadOf House mmc3-image .board
-
-abbrev used : Board
-used =
-    withMmc3 fresh
-    (record {
-      select = 3;
-      prgmode = 1;
-      chrmode = 1;
-      regs = 2 ∷ 4 ∷ 1 ∷ 2 ∷ 3 ∷ 4 ∷ 5 ∷ 6 ∷ [];
-      irq = record { enabled = true; latch = 9; counter = 7; reload = false };
-    })
-
-abbrev arming : Arming
-arming =
-    record {
-      latch = 2;
-      toLatch = 0xC000;
-      toReload = 0xC001;
-      toEnable = 0xE001;
-      reloadByte = 0;
-      enableByte = 0;
-      first = lent;
-      second = lent;
-      third = lent;
-    }
-
-pub met-image : OneImage fresh used
-unfolding opened
-met-image = record { cart = refl; is-mmc3 = refl; first = refl; second = refl }
-
-pub met-fresh : Accepts fresh arming
-unfolding opened
-met-fresh = record { is-latch = refl; is-reload = refl; is-enable = refl; latch = refl; reload = refl; enable = refl }
-
-pub met-used : Accepts used arming
-unfolding opened
-met-used = record { is-latch = refl; is-reload = refl; is-enable = refl; latch = refl; reload = refl; enable = refl }

@@ -1,3 +1,4 @@
+pub mod Calls
 pub mod Loads
 pub mod PLines
 pub mod Clocks

@@ -1,4 +1,4 @@
--- The loads that the calls of a run complete on an MMC1 board.
+-- Which writes a board accepts, and the loads that the calls of a run complete on an MMC1 board.
 use Prim.Native.Nat.{ℕ}
 use mathlib.Core.Bool.{Bool, true, false, cond, not, _&&_}
 use mathlib.Core.List.{List, [], _∷_}
@@ -28,7 +28,7 @@ isMmc1 Uxrom = false
 isMmc1 Cnrom = false
 isMmc1 Mmc3 = false
 
--- a refused write completes nothing
+-- whether a write that lands there is accepted
 unfoldable pub isAccepted : Place → Bool
 isAccepted (Refused why) = false
 isAccepted (Prg i) = true
@@ -37,7 +37,7 @@ isAccepted (PrgRam i) = true
 isAccepted (ChrRam i) = true
 isAccepted Zero = true
 
--- a write that the board accepts
+-- whether the board accepts a write; it answers a refusal exactly when not
 abbrev pub accepts : Board → Lent → ℕ → Bool
 accepts b l a = isAccepted (landing b (l .image) (l .prg) (l .chr) a)
 
@@ -45,7 +45,13 @@ accepts b l a = isAccepted (landing b (l .image) (l .prg) (l .chr) a)
 unfoldable pub isSerial : Board → Lent → ℕ → ℕ → Bool
 isSerial b l a v = isMmc1 (b .cart .mapper) && accepts b l a && not (ltb a 0x8000) && not (isSigned v)
 
--- "the fifth completes a load"
+-- a write to 8000-FFFF with bit 7, accepted by an MMC1 board
+unfoldable pub isReset : Board → Call → Bool
+isReset b (read l a) = false
+isReset b (write l a v) = isMmc1 (b .cart .mapper) && accepts b l a && not (ltb a 0x8000) && isSigned v
+isReset b clock = false
+
+-- "the fifth completes a load"; a refused write completes nothing
 unfoldable pub completes : Board → Call → Done
 completes b (read l a) = nothing
 completes b (write l a v) =

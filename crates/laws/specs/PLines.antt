@@ -2,19 +2,15 @@
 use Prim.Native.Nat.{ℕ, _+_, _-_}
 use mathlib.Core.Bool.{true, false}
 use mathlib.Core.List.{List, [], _∷_, _++_, map}
-use lib.ListN.{length, replicate}
+use lib.ListN.{replicate}
 use Rattle.common.specs.declared.Mode.{Mode}
 use Rattle.common.specs.declared.Mode.the-variants.{House, Board as OnBoard}
 use Rattle.cartridge.specs.Answers.{refusalNumber, mirroringLetter}
-use Rattle.cartridge.specs.Header.{headerOf}
-use Rattle.cartridge.specs.Load.{verdict, cartridgeOf, loadedAs}
 use Rattle.places.specs.declared.ReadAnswer.{ReadAnswer}
 use Rattle.places.specs.declared.ReadAnswer.the-variants.{Byte, Refused as NoByte}
 use Rattle.mmc1.specs.declared.Register.{Register}
 use Rattle.mmc1.specs.declared.Register.the-variants.{Control, Chr0, Chr1, Prg}
-use Rattle.boards.specs.Start.{loadedBoard}
-use Rattle.boards.specs.Runs.{Call, Answer, after, answers}
-use Rattle.boards.specs.Runs.Call.{read, write, clock}
+use Rattle.boards.specs.Runs.{Lent, Answer, after, answers}
 use Rattle.boards.specs.Runs.Answer.{toRead, toWrite, toClock}
 use Rattle.boards.specs.declared.Loaded.{Loaded}
 use Rattle.boards.specs.declared.LoadAnswer.{LoadAnswer}
@@ -23,6 +19,8 @@ use Rattle.boards.specs.declared.WriteAnswer.{WriteAnswer}
 use Rattle.boards.specs.declared.WriteAnswer.the-variants.{Quiet, Notice, Refused as NotWritten}
 use Rattle.boards.specs.declared.ClockAnswer.{ClockAnswer}
 use Rattle.boards.specs.declared.ClockAnswer.the-variants.{No, Yes, Refused as NotClocked}
+use Rattle.laws.specs.Calls.{Event, loadWith, call}
+use Rattle.laws.specs.Calls.Event.{reads, writes, clocks}
 use Rattle.laws.specs.Loads.{Done, loads}
 use Rattle.laws.specs.Loads.Done.{nothing, load}
 
@@ -40,19 +38,11 @@ ram = replicate 8192 0
 
 -- the load of an image, with both RAMs lent
 abbrev pub loadOf : Mode → List ℕ → Loaded
-loadOf mode s = loadedBoard (loadedAs (verdict s mode (length ram) (length ram)) (cartridgeOf (headerOf s) mode (length s)))
+loadOf mode s = loadWith mode s ram ram
 
--- an event, with the image and both RAMs lent to it
-pub data Event : Type 0 where
-  reads : ℕ → Event
-  writes : ℕ → ℕ → Event
-  clocks : Event
-
--- the call that an event is
-abbrev pub call : List ℕ → Event → Call
-call s (reads a) = read (record { image = s; prg = ram; chr = ram }) a
-call s (writes a v) = write (record { image = s; prg = ram; chr = ram }) a v
-call s clocks = clock
+-- the image and both RAMs, lent to a call
+abbrev pub lent : List ℕ → Lent
+lent s = record { image = s; prg = ram; chr = ram }
 
 -- what a row asks: a load, or of a loaded board its answers, the loads that it completes, or a register
 pub data Question : Type 0 where
@@ -110,12 +100,12 @@ listed (load w v ∷ ds) = registerNumber w ∷ v ∷ listed ds
 -- the answer to a question
 abbrev pub answerTo : Question → List ℕ
 answerTo (whenLoaded mode s) = loadNumber (loadOf mode s .answer) ∷ []
-answerTo (whenPlayed mode s es) = map answerNumber (answers (loadOf mode s .board) (map (call s) es))
-answerTo (loadsOf mode s es) = listed (loads (loadOf mode s .board) (map (call s) es))
+answerTo (whenPlayed mode s es) = map answerNumber (answers (loadOf mode s .board) (map (call (lent s)) es))
+answerTo (loadsOf mode s es) = listed (loads (loadOf mode s .board) (map (call (lent s)) es))
 answerTo (modesAfter mode s es) =
-    let r = after (loadOf mode s .board) (map (call s) es) .mmc1 .regs in
+    let r = after (loadOf mode s .board) (map (call (lent s)) es) .mmc1 .regs in
     r .prgmode ∷ r .chrmode ∷ []
-answerTo (prgAfter mode s es) = after (loadOf mode s .board) (map (call s) es) .mmc1 .regs .prg ∷ []
+answerTo (prgAfter mode s es) = after (loadOf mode s .board) (map (call (lent s)) es) .mmc1 .regs .prg ∷ []
 
 -- a row: what is asked, and what is wanted
 pub record Row : Type 0 where

@@ -2,33 +2,19 @@
 use Prim.Native.Nat.{ℕ, _+_, _≤_, _<_}
 use mathlib.Core.Path.{_≡_}
 use mathlib.Core.Bool.{Bool, true, false, cond}
-use mathlib.Core.List.{List, [], _∷_, map}
-use lib.ListN.{length, replicate, getD, take}
+use mathlib.Core.List.{List, [], _∷_}
+use lib.ListN.{getD, take}
 use Rattle.common.specs.Common.{isSigned}
-use Rattle.cartridge.specs.declared.MapperType.the-variants.{Mmc1}
 use Rattle.mmc1.specs.declared.Register.{Register}
 use Rattle.mmc1.specs.declared.Register.the-variants.{Control, Chr0, Chr1, Prg}
-use Rattle.boards.specs.Range.{inRange}
-use Rattle.boards.specs.Runs.{Lent, Call, next, prgAfter, chrAfter, after, answers}
+use Rattle.boards.specs.Runs.{Lent, Call, next, after, answers}
 use Rattle.boards.specs.Runs.Call.{read, write, clock}
 use Rattle.boards.specs.declared.Board.{Board}
+use Rattle.laws.specs.Calls.{Write, Event, played, leftAfter}
 use Rattle.laws.specs.Loads.{Done, accepts, isSerial, loads}
 use Rattle.laws.specs.Loads.Done.{nothing, load}
 
--- "two boards of one image and mode", after "any two histories"
-pub record OneImage (b d : Board) : Type 0 where
-  pub cart : b .cart ≡ d .cart
-  pub is-mmc1 : b .cart .mapper ≡ Mmc1
-  pub first : inRange b ≡ true
-  pub second : inRange d ≡ true
-
--- a write, with the buffers lent to it
-pub record Write : Type 0 where
-  pub lent : Lent
-  pub address : ℕ
-  pub byte : ℕ
-
--- the board accepts it, and it is "a write with bit 7 set to 8000-FFFF"
+-- the board accepts the write, and it is "a write with bit 7 set to 8000-FFFF"
 pub record Clears (w : Write) (b : Board) : Type 0 where
   pub to-8000-FFFF : 0x8000 ≤ w .address
   pub bit-7 : isSigned (w .byte) ≡ true
@@ -37,21 +23,6 @@ pub record Clears (w : Write) (b : Board) : Type 0 where
 -- the board after it
 abbrev pub cleared : Write → Board → Board
 cleared w b = next b (write (w .lent) (w .address) (w .byte))
-
--- "lent buffers of the same lengths (contents may differ)": what is left once the contents are wiped
-abbrev pub wipedLent : Lent → Lent
-wipedLent l =
-    record { image = replicate (length (l .image)) 0; prg = replicate (length (l .prg)) 0; chr = replicate (length (l .chr)) 0 }
-
--- a call of any kind, its buffers wiped
-abbrev pub wiped : Call → Call
-wiped (read l a) = read (wipedLent l) a
-wiped (write l a v) = write (wipedLent l) a v
-wiped clock = clock
-
--- "then get the same calls", but for the contents of the buffers
-abbrev pub SameCalls : List Call → List Call → Type 0
-SameCalls cs ds = map wiped cs ≡ map wiped ds
 
 -- "complete loads": what the call at a position completes; a refused write completes nothing
 abbrev pub doneAt : Board → List Call → ℕ → Done
@@ -101,13 +72,13 @@ pub record Agree (b d : Board) : Type 0 where
 pub record Settles (b d : Board) (cs ds : List Call) : Type 0 where
   -- "The same writes complete loads, in the same registers, with the same five bits"
   pub the-same-loads : loads b cs ≡ loads d ds
-  -- "and none before the fifth serial write": up to and with the call that completes one there are five
+  -- "and none before the fifth serial write": up to and with the call that completes one there are at least five
   pub none-before-the-fifth : (i : ℕ) (r : Register) → LoadsAt b cs r i → 5 ≤ serialWrites b (take (i + 1) cs)
   -- "Once there have been a control load, ..": "the boards agree in all that answers depend on"
   pub the-boards-agree : Settled b cs → Agree (after b cs) (after d ds)
-  -- "so with equal RAM bytes all later answers agree (reads with their refusals, notices, clocks)"
-  pub later-answers-agree : Settled b cs → (later : List Call) → answers (after b cs) later ≡ answers (after d ds) later
-  -- and the RAM bytes stay equal: what a later call leaves in the lent PRG RAM
-  pub later-prg-rams-agree : Settled b cs → (later : List Call) (c : Call) → prgAfter (after (after b cs) later) c ≡ prgAfter (after (after d ds) later) c
-  -- and in the lent CHR RAM
-  pub later-chr-rams-agree : Settled b cs → (later : List Call) (c : Call) → chrAfter (after (after b cs) later) c ≡ chrAfter (after (after d ds) later) c
+  -- "so with equal RAM bytes all later answers agree (reads with their refusals, notices, clocks)": each event is lent what the one before left
+  pub later-answers-agree : Settled b cs → (l : Lent) (es : List Event) → played (after b cs) l es ≡ played (after d ds) l es
+  -- and the RAM bytes stay equal
+  pub rams-stay-equal : Settled b cs → (l : Lent) (es : List Event) → leftAfter (after b cs) l es ≡ leftAfter (after d ds) l es
+  -- and answers agree whatever is lent to each call, as long as both boards are lent the same
+  pub whatever-is-lent : Settled b cs → (later : List Call) → answers (after b cs) later ≡ answers (after d ds) later

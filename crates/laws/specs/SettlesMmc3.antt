@@ -4,21 +4,13 @@ use mathlib.Core.Path.{_≡_}
 use mathlib.Core.Bool.{Bool, true, not, _&&_}
 use mathlib.Core.List.{List, [], _∷_}
 use lib.Dec.{ltb, eqb}
-use Rattle.cartridge.specs.declared.MapperType.the-variants.{Mmc3}
-use Rattle.boards.specs.Range.{inRange}
 use Rattle.boards.specs.Clock as clocks
-use Rattle.boards.specs.Runs.{Lent, Call, next}
+use Rattle.boards.specs.Runs.{Lent, Call, next, after}
 use Rattle.boards.specs.Runs.Call.{read, write, clock}
 use Rattle.boards.specs.declared.Board.{Board}
 use Rattle.boards.specs.declared.ClockAnswer.{ClockAnswer}
+use Rattle.laws.specs.Calls.{Write, wipedLent}
 use Rattle.laws.specs.Loads.{accepts}
-
--- two MMC3 boards of one image and mode, after any two histories
-pub record OneImage (b d : Board) : Type 0 where
-  pub cart : b .cart ≡ d .cart
-  pub is-mmc3 : b .cart .mapper ≡ Mmc3
-  pub first : inRange b ≡ true
-  pub second : inRange d ≡ true
 
 -- an even write to C000-DFFF
 abbrev pub isLatch : ℕ → Bool
@@ -39,33 +31,36 @@ irqAnswers b (read l a ∷ cs) = irqAnswers (next b (read l a)) cs
 irqAnswers b (write l a v ∷ cs) = irqAnswers (next b (write l a v)) cs
 irqAnswers b (clock ∷ cs) = clocks.clock b .answer ∷ irqAnswers (next b clock) cs
 
--- the three writes, with the buffers lent to each
+-- the three writes, straight after one another
 pub record Arming : Type 0 where
-  pub latch : ℕ
-  pub toLatch : ℕ
-  pub toReload : ℕ
-  pub toEnable : ℕ
-  pub reloadByte : ℕ
-  pub enableByte : ℕ
-  pub first : Lent
-  pub second : Lent
-  pub third : Lent
+  pub latch : Write
+  pub reload : Write
+  pub enable : Write
 
--- the board after each of them
+-- the board after the first
 abbrev pub latched : Board → Arming → Board
-latched b w = next b (write (w .first) (w .toLatch) (w .latch))
+latched b w = next b (write (w .latch .lent) (w .latch .address) (w .latch .byte))
 
+-- after the second
 abbrev pub reloaded : Board → Arming → Board
-reloaded b w = next (latched b w) (write (w .second) (w .toReload) (w .reloadByte))
+reloaded b w = next (latched b w) (write (w .reload .lent) (w .reload .address) (w .reload .byte))
 
+-- after the third
 abbrev pub armed : Board → Arming → Board
-armed b w = next (reloaded b w) (write (w .third) (w .toEnable) (w .enableByte))
+armed b w = next (reloaded b w) (write (w .enable .lent) (w .enable .address) (w .enable .byte))
 
--- they go to the latch, the reload mark and the enable, straight after one another, and the board accepts each
+-- they go to the latch, the reload mark and the enable, and the board accepts each; the clock has no line: a clock of a board in range is never refused
 pub record Accepts (b : Board) (w : Arming) : Type 0 where
-  pub is-latch : isLatch (w .toLatch) ≡ true
-  pub is-reload : isReload (w .toReload) ≡ true
-  pub is-enable : isEnable (w .toEnable) ≡ true
-  pub latch : accepts b (w .first) (w .toLatch) ≡ true
-  pub reload : accepts (latched b w) (w .second) (w .toReload) ≡ true
-  pub enable : accepts (reloaded b w) (w .third) (w .toEnable) ≡ true
+  pub is-latch : isLatch (w .latch .address) ≡ true
+  pub is-reload : isReload (w .reload .address) ≡ true
+  pub is-enable : isEnable (w .enable .address) ≡ true
+  pub latch : accepts b (w .latch .lent) (w .latch .address) ≡ true
+  pub reload : accepts (latched b w) (w .reload .lent) (w .reload .address) ≡ true
+  pub enable : accepts (reloaded b w) (w .enable .lent) (w .enable .address) ≡ true
+
+-- what demand 3 says of two boards that accepted the three writes, of the clock straight after them and of the calls that they get then
+pub record Settles (b d : Board) (cs ds : List Call) : Type 0 where
+  -- "agree on every IRQ answer from that clock on"
+  pub irq-answers-agree : irqAnswers b (clock ∷ cs) ≡ irqAnswers d (clock ∷ ds)
+  -- a later write, so too the acknowledging one (14), is refused on both or on neither
+  pub both-refuse-or-neither : (l k : Lent) → wipedLent l ≡ wipedLent k → (a : ℕ) → accepts (after (next b clock) cs) l a ≡ accepts (after (next d clock) ds) k a

@@ -1,0 +1,114 @@
+-- Two MMC3 boards that meet all that the theorem of `SettlesMmc3` asks, in each mode, three runs of house mode that fall short by one write and leave the boards
+-- apart, and a write that both refuse: each is computed. Assumes nothing.
+use mathlib.Core.Path.{_≡_, refl}
+use mathlib.Core.Bool.{true, false}
+use mathlib.Core.List.{List, [], _∷_}
+use native.Mathlib.Omega.{arith}
+use lib.ListN.{replicate}
+use Rattle.common.specs.declared.Mode.{Mode}
+use Rattle.common.specs.declared.Mode.the-variants.{House, Board as OnBoard}
+use Rattle.cartridge.specs.declared.MapperType.the-variants.{Mmc3}
+use Rattle.boards.specs.Write.{withMmc3}
+use Rattle.boards.specs.Runs.{Lent, Call, after}
+use Rattle.boards.specs.Runs.Call.{read, write, clock}
+use Rattle.boards.specs.declared.Board.{Board}
+use Rattle.boards.specs.declared.ClockAnswer.{ClockAnswer}
+use Rattle.boards.specs.declared.ClockAnswer.the-variants.{No, Yes}
+use Rattle.laws.specs.Calls.{History, reached, OneImage, SameCalls}
+use Rattle.laws.specs.Loads.{accepts}
+use Rattle.laws.specs.PLines.{mmc3 as mmc3-image, ram, loadOf}
+use Rattle.laws.specs.SettlesMmc3.{irqAnswers, Arming, armed, Accepts, Settles}
+use Rattle.laws.proofs.Histories.{any-two-histories}
+use Rattle.laws.proofs.SettlesMmc3.{mmc3-settles}
+use Rattle.laws.proofs.Opened.{opened}
+
+-- two boards that meet all this: one as it is loaded, and one in the midst of a game
+abbrev lent : Lent
+lent = record { image = mmc3-image; prg = ram; chr = ram }
+
+abbrev others : Lent
+others = record { image = mmc3-image; prg = replicate 8192 7; chr = replicate 8192 9 }
+
+abbrev fresh : Mode → Board
+fresh mode = loadOf mode mmc3-image .board
+
+abbrev used : Mode → Board
+used mode =
+    withMmc3 (fresh mode)
+    (record {
+      select = 3;
+      prgmode = 1;
+      chrmode = 1;
+      regs = 2 ∷ 4 ∷ 1 ∷ 2 ∷ 3 ∷ 4 ∷ 5 ∷ 6 ∷ [];
+      irq = record { enabled = true; latch = 9; counter = 7; reload = false };
+    })
+
+abbrev arming : Lent → Arming
+arming l =
+    record {
+      latch = record { lent = l; address = 0xC000; byte = 2 };
+      reload = record { lent = l; address = 0xC001; byte = 0 };
+      enable = record { lent = l; address = 0xE001; byte = 0 };
+    }
+
+pub met-image : (mode : Mode) → OneImage Mmc3 (fresh mode) (used mode)
+unfolding opened
+met-image House = record { cart = refl; mapper = refl; first = refl; second = refl }
+met-image OnBoard = record { cart = refl; mapper = refl; first = refl; second = refl }
+
+pub met-fresh : (mode : Mode) → Accepts (fresh mode) (arming lent)
+unfolding opened
+met-fresh House = record { is-latch = refl; is-reload = refl; is-enable = refl; latch = refl; reload = refl; enable = refl }
+met-fresh OnBoard = record { is-latch = refl; is-reload = refl; is-enable = refl; latch = refl; reload = refl; enable = refl }
+
+pub met-used : (mode : Mode) → Accepts (used mode) (arming others)
+unfolding opened
+met-used House = record { is-latch = refl; is-reload = refl; is-enable = refl; latch = refl; reload = refl; enable = refl }
+met-used OnBoard = record { is-latch = refl; is-reload = refl; is-enable = refl; latch = refl; reload = refl; enable = refl }
+
+-- calls for both: a refused write, a read, a clock, and another latch
+abbrev calls : Lent → List Call
+calls l = write (record { image = l .image; prg = []; chr = l .chr }) 0xE000 0 ∷ read l 0x8000 ∷ clock ∷ write l 0xC000 5 ∷ []
+
+-- a history of that image with any calls; two such leave boards of one image
+pub met-history : (mode : Mode) → List Call → History mode mmc3-image
+unfolding opened
+met-history House cs = record { prg = ram; chr = ram; accepted = refl; calls = cs }
+met-history OnBoard cs = record { prg = ram; chr = ram; accepted = refl; calls = cs }
+
+pub met-histories : (mode : Mode) → OneImage Mmc3 (reached (met-history mode [])) (reached (met-history mode (calls lent)))
+unfolding opened
+met-histories mode = any-two-histories mode mmc3-image (omega arith) (omega arith) Mmc3 refl (met-history mode []) (met-history mode (calls lent))
+
+pub met-calls : SameCalls (calls lent) (calls others)
+met-calls = refl
+
+-- so the two agree
+pub met : (mode : Mode) → Settles (armed (fresh mode) (arming lent)) (armed (used mode) (arming others)) (calls lent) (calls others)
+met mode =
+    mmc3-settles (fresh mode) (used mode) (met-image mode) (arming lent) (arming others) refl (met-fresh mode) (met-used mode) (calls lent) (calls others) met-calls
+
+-- what the two boards answer to clocks after a run that falls short by one write
+abbrev apart : Mode → List Call → List Call → List ClockAnswer → List ClockAnswer → Type 0
+apart mode cs ticks x y = (irqAnswers (after (fresh mode) cs) ticks ≡ x) × (irqAnswers (after (used mode) cs) ticks ≡ y)
+
+-- no reload mark
+pub without-the-reload : apart House (write lent 0xC000 2 ∷ write lent 0xE001 0 ∷ []) (clock ∷ []) (Yes ∷ []) (No ∷ [])
+unfolding opened
+without-the-reload = (refl, refl)
+
+-- no enable
+pub without-the-enable : apart House (write lent 0xC000 0 ∷ write lent 0xC001 0 ∷ []) (clock ∷ clock ∷ []) (No ∷ No ∷ []) (No ∷ Yes ∷ [])
+unfolding opened
+without-the-enable = (refl, refl)
+
+-- no latch
+pub without-the-latch : apart House (write lent 0xC001 0 ∷ write lent 0xE001 0 ∷ []) (clock ∷ clock ∷ []) (No ∷ Yes ∷ []) (No ∷ No ∷ [])
+unfolding opened
+without-the-latch = (refl, refl)
+
+-- the acknowledging write after latch 1, reload, enable and clock is refused on both in house mode
+pub refused-on-both : (accepts (after (fresh House) (write lent 0xC000 1 ∷ write lent 0xC001 0 ∷ write lent 0xE001 0 ∷ clock ∷ [])) lent 0xE000 ≡ false)
+    × (accepts (after (used House) (write lent 0xC000 1 ∷ write lent 0xC001 0 ∷ write lent 0xE001 0 ∷ clock ∷ [])) lent 0xE000 ≡ false)
+unfolding opened
+refused-on-both = (refl, refl)
