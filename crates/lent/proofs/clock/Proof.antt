@@ -51,6 +51,7 @@ use Rattle.mmc3.proofs.Irq.clock as callee
 use Rattle.mmc3.proofs.Irq.clock.Symbol as callee-def
 use Rattle.mmc3.proofs.Irq.clock.Symbol.{name as #callee}
 use Rattle.mmc3.proofs.Irq.clock.Met as callee-thm
+use Rattle.lent.proofs.Machine.{irq-val, mode-val, irq-typed, mode-typed, clocked-typed}
 use Rattle.lent.proofs.clock.Key.{name as #self}
 use Rattle.lent.proofs.clock as self
 use Rattle.lent.proofs.clock.Statement as stated
@@ -59,15 +60,8 @@ use Rattle.lent.proofs.clock.Code as code
 abbrev stayed : Stays (self.ended .signature .params) (self.ended .kept)
 stayed = (stay-ref (0 ∷ []) tt (plain (λ _. IrqT.the-row)), (stay-dropped (plain (λ _. ModeT.the-row)) yes, tt))
 
--- a unit and a mode as the machine has them
-abbrev irq-vals : Irq → List Val
-irq-vals = struct.vals IrqT.the-type IrqL.the-laws
-
-abbrev mode-val : Mode → Val
-mode-val = enum.val ModeT.the-type ModeL.the-laws
-
 -- what holds of the whole answer holds of the unit in it
-inner : (r : Clocked) (vs : List Val) → Is ClockedT.the-row r vs → Is IrqT.the-row (r .irq) (irq-vals (r .irq))
+inner : (r : Clocked) (vs : List Val) → Is ClockedT.the-row r vs → Is IrqT.the-row (r .irq) (irq-val (r .irq) ∷ [])
 inner r vs is = struct.owed ClockedT.the-type ClockedL.the-laws r vs is .0
 
 module _ {M : Type 1} (𝓤 : URA M) (H : Heap 𝓤) (A : Atoms 𝓤) (W : Given 𝓤 H A) (at-mem : Memory → SProp 𝓤) (run : Routine → Fun 𝓤) where
@@ -78,7 +72,7 @@ module _ {M : Type 1} (𝓤 : URA M) (H : Heap 𝓤) (A : Atoms 𝓤) (W : Given
   abbrev promise : Clauses 𝓤 self.ended
   promise = self.clauses 𝓤 H A at-mem run
 
-  module _ (κ : Lft) (q : Share) (b o : ℕ) (γ : GName) (h : Irq) (m : Mode) where
+  module _ (κ : Lft) (q : Share) (b o : ℕ) (γ : GName) (h : Irq) (m : Mode) (is-m : Is ModeT.the-row m (mode-val m ∷ [])) where
     -- what is passed, and the machine's values of it
     abbrev x : RefT Irq × (Mode × Unit {0})
     x = (record { ptr = (b, o); name = γ; now = h }, (m, tt))
@@ -101,11 +95,11 @@ module _ {M : Type 1} (𝓤 : URA M) (H : Heap 𝓤) (A : Atoms 𝓤) (W : Given
 
     -- the clock by value is handed a unit and a mode, and tells its result
     abbrev to-clock : Clock .Ghost
-    to-clock = ((tt, tt, tt, (h, (m, tt)), (irq-vals h, (mode-val m ∷ [], tt))), tt)
+    to-clock = ((tt, tt, tt, (h, (m, tt)), (irq-val h ∷ [], (mode-val m ∷ [], tt))), tt)
 
-    handed : ent 𝓤 (sep 𝓤 (sem 𝓤 H A (IrqT.the-row .own h (irq-vals h))) (sem 𝓤 H A (ModeT.the-row .own m (mode-val m ∷ [])))) (Clock .pre to-clock)
+    handed : ent 𝓤 (sep 𝓤 (sem 𝓤 H A (IrqT.the-row .own h (irq-val h ∷ []))) (sem 𝓤 H A (ModeT.the-row .own m (mode-val m ∷ [])))) (Clock .pre to-clock)
     handed =
-        qed W (‵ (IrqT.the-row .own h (irq-vals h)) ∷ ‵ (ModeT.the-row .own m (mode-val m ∷ [])) ∷ []) ∵
+        qed W (‵ (IrqT.the-row .own h (irq-val h ∷ [])) ∷ ‵ (ModeT.the-row .own m (mode-val m ∷ [])) ∷ []) ∵
         nothing ! $ move ! (2 ∷ 0 ∷ []) $ fjoin ! $ move ! (1 ∷ 0 ∷ []) $ fjoin ! $ nothing ! $ join ! $ frame ! $ done !
 
     abbrev told : Clocked → SProp 𝓤
@@ -118,42 +112,41 @@ module _ {M : Type 1} (𝓤 : URA M) (H : Heap 𝓤) (A : Atoms 𝓤) (W : Given
       walk : ent 𝓤 (onEntry 𝓤 H A self.signature (κ, tt) (q, tt) x at) (WpFn 𝓤 H K Λ code.function (vptr b o ∷ mode-val m ∷ []) Post)
       walk =
           qed W ((‵ (flft κ q) ⊛ ‵ ftrue) ∷ ‵ (owns (MutRef (named 0) κ IrqT.the-row ∷ ModeT.the-row ∷ []) x at) ∷ []) ∵
-          split ! $ move ! (2 ∷ []) $ fsplit ! $ move ! (1 ∷ []) $ fsplit ! $
-          peeks ! ModeT.the-row (Is ModeT.the-row) (shows 𝓤 H A ModeT.the-row) m (mode-val m ∷ []) (λ is-m. move ! (2 ∷ []) $ fsplit3 ! $ drop ! $ move ! (0 ∷ 1 ∷ 4 ∷ []) $
-          -- [obs; the borrow; the token; what a Mode owns; true; true]
+          split ! $ move ! (2 ∷ []) $ fsplit ! $ fsplit3 ! $ drop ! $ move ! (0 ∷ 1 ∷ 3 ∷ []) $
+          -- [obs; the borrow; the token; what a Mode owns; true]
           enter ! K Λ code.function (vptr b o ∷ mode-val m ∷ []) _ $
           alloc1 ! (λ l₀. alloc1 ! (λ l₁. alloc1 ! (λ l₂. alloc1 ! (λ l₃. alloc1 ! (λ l₄. alloc0 ! $ params1 ! $
-          pass1 ! (init ! 6 refl (tt, tt)) $ pass1 ! (init ! 4 refl (enum.lawful ModeT.the-type ModeL.the-laws 𝓤 H A W tt .typed m _ is-m .0)) $ pass0 ! $
+          pass1 ! (init ! 6 refl (tt, tt)) $ pass1 ! (init ! 4 refl (mode-typed W m is-m)) $ pass0 ! $
           move ! (10 ∷ 11 ∷ 12 ∷ []) $ opens ! tt IrqT.the-row {h = h} b o (λ vs.
-          spelt ! IrqT.the-row (Is IrqT.the-row) (shows 𝓤 H A IrqT.the-row) irq-vals (struct.tells IrqT.the-type IrqL.the-laws) fullShare h vs b o $ move ! (1 ∷ []) $
-          peeks ! IrqT.the-row (Is IrqT.the-row) (shows 𝓤 H A IrqT.the-row) h (irq-vals h) (λ was. move ! (1 ∷ 0 ∷ []) $
+          spelt ! IrqT.the-row (Is IrqT.the-row) (shows 𝓤 H A IrqT.the-row) (struct.vals IrqT.the-type IrqL.the-laws) (struct.tells IrqT.the-type IrqL.the-laws) fullShare h vs b o $ move ! (1 ∷ []) $
+          peeks ! IrqT.the-row (Is IrqT.the-row) (shows 𝓤 H A IrqT.the-row) h (irq-val h ∷ []) (λ was. move ! (1 ∷ 0 ∷ []) $
           -- [the unit's cell; what an Irq owns; the open borrow; obs; auth; room for _4; …; room for _3; …; _2; …; _1; …; room for _0; …]
-          assigns ! (of-opd ! (load ! (from ! (hop ! (look ! 11 refl) (stop !))) (look-raw ! 0 refl))) (from ! (stop !)) (init ! 5 refl (struct.lawful IrqT.the-type IrqL.the-laws 𝓤 H A W .typed h _ was .0)) $
+          assigns ! (of-opd ! (load ! (from ! (hop ! (look ! 11 refl) (stop !))) (look-raw ! 0 refl))) (from ! (stop !)) (init ! 5 refl (irq-typed W h was)) $
           owned ! ModeT.the-row (Is ModeT.the-row) (enum.makes ModeT.the-type ModeL.the-plain 𝓤 H A) m (mode-val m ∷ []) is-m $
-          owned ! IrqT.the-row (Is IrqT.the-row) (struct.makes IrqT.the-type IrqL.the-plain 𝓤 H A) h (irq-vals h) was $
+          owned ! IrqT.the-row (Is IrqT.the-row) (struct.makes IrqT.the-type IrqL.the-plain 𝓤 H A) h (irq-val h ∷ []) was $
           use2 W (raw (Clock .pre to-clock)) handed $
           calls-at ! fm Clock known to-clock (and-then ! (load ! (from ! (stop !)) (look ! 6 refl)) (and-then ! (load ! (from ! (stop !)) (look ! 10 refl)) (no-more !))) (λ v.
           use1 W (later (some (λ (r : Clocked). (‵ ftrue ⊛ ‵ (ClockedT.the-row .own r (v ∷ []))) ⊛ raw (told r)))) (id⊢ 𝓤 _) $ await ! tt $ pick ! (λ r.
           split ! $ move ! (1 ∷ []) $ use1 W (raw (fact 𝓤 (r ≡ clockIn m h))) (learnt r) $ heard ! (r ≡ clockIn m h) (λ e. split ! $ drop ! $
           peeks ! ClockedT.the-row (Is ClockedT.the-row) (shows 𝓤 H A ClockedT.the-row) r (v ∷ []) (λ is.
           -- [what a Clocked owns; the unit's cell; what an Irq owns; the open borrow; obs; auth; _4; …; room for _3; …; _2; …; _1; …; room for _0; …]
-          land ! (from ! (stop !)) (init ! 8 refl (struct.lawful ClockedT.the-type ClockedL.the-laws 𝓤 H A W .typed r _ is .0)) $
+          land ! (from ! (stop !)) (init ! 8 refl (clocked-typed W r is)) $
           rewrite ! 8 (λ (us : List Val). ‵ (fat fullShare ClockedL.mir l₃ 0 (only us))) (struct.tells ClockedT.the-type ClockedL.the-laws r _ is) refl $
           assigns ! (of-opd ! (load ! (from ! (fld ! refl (stop !))) (look-in ! 8 (sub ! 0 refl (whole !))))) (from ! (hop ! (look ! 12 refl) (stop !)))
-          (store-raw ! 1 refl (struct.lawful IrqT.the-type IrqL.the-laws 𝓤 H A W .typed (r .irq) _ (inner r _ is) .0)) $
+          (store-raw ! 1 refl (irq-typed W (r .irq) (inner r _ is))) $
           assigns ! (of-opd ! (load ! (from ! (fld ! refl (stop !))) (look-in ! 8 (sub ! 1 refl (whole !))))) (from ! (stop !)) (init ! 14 refl (tt, tt)) $
-          drop ! $ move ! (1 ∷ []) $ drop ! $ owned ! IrqT.the-row (Is IrqT.the-row) (struct.makes IrqT.the-type IrqL.the-plain 𝓤 H A) (r .irq) (irq-vals (r .irq)) (inner r _ is) $ move ! (1 ∷ 0 ∷ []) $
-          closes ! tt IrqT.the-row (r .irq) (irq-vals (r .irq)) b o $
+          drop ! $ move ! (1 ∷ []) $ drop ! $ owned ! IrqT.the-row (Is IrqT.the-row) (struct.makes IrqT.the-type IrqL.the-plain 𝓤 H A) (r .irq) (irq-val (r .irq) ∷ []) (inner r _ is) $ move ! (1 ∷ 0 ∷ []) $
+          closes ! tt IrqT.the-row (r .irq) (irq-val (r .irq) ∷ []) b o $
           -- [obs; the borrow; the token; _4; …; _3; …; _2; …; _1; …; _0; …]
           returns ! (look ! 11 refl) $ forget ! 3 refl $ forget ! 5 refl $ forget ! 7 refl $ forget ! 9 refl $ forget ! 11 refl $
           move ! (11 ∷ 12 ∷ []) $ free1 ! $ move ! (9 ∷ 10 ∷ []) $ free1 ! $ move ! (7 ∷ 8 ∷ []) $ free1 ! $ move ! (5 ∷ 6 ∷ []) $ free1 ! $ move ! (3 ∷ 4 ∷ []) $ free1 ! $ free0 ! $
-          keep ! (0 ∷ 1 ∷ 2 ∷ []) $ by ! (exits r e)))))))))))))
+          keep ! (0 ∷ 1 ∷ 2 ∷ []) $ by ! (exits r e))))))))))))
 
   walks : (K : Calls 𝓤 H) (Λ : Loops 𝓤 H) → FmC 𝓤 H (W .laws) K → Triple 𝓤 (K #callee) Clock → Walks 𝓤 H A self.ended stayed (WpFn 𝓤 H K Λ code.function) promise
   walks K Λ fm known =
       walked 𝓤 H A self.ended stayed promise (WpFn 𝓤 H K Λ code.function)
       (λ κs. (ptr-vals, (enum.vals ModeT.the-type ModeL.the-laws, tt))) (λ κs. (mut-tells (named 0) (κs .0) IrqT.the-row, (enum.tells ModeT.the-type ModeL.the-laws, tt)))
-      (λ κs qs bounds a _ _. via 𝓤 _ (fst∗ 𝓤 _ (emp 𝓤)) (walk (κs .0) (qs .0) (a .0 .ptr .0) (a .0 .ptr .1) (a .0 .name) (a .0 .now) (a .1 .0) K Λ fm known))
+      (λ κs qs bounds a _ are. via 𝓤 _ (fst∗ 𝓤 _ (emp 𝓤)) (walk (κs .0) (qs .0) (a .0 .ptr .0) (a .0 .ptr .1) (a .0 .name) (a .0 .now) (a .1 .0) (are .1 .0) K Λ fm known))
 
   goes : AllGo 𝓤 H A W 1 (self.signature .params) (self.ended .kept) stayed
   goes = (goes-ref 𝓤 H A W 1 0 tt (plain (λ _. IrqT.the-row)), (goes-dropped 𝓤 H A W 1 (plain (λ _. ModeT.the-row)) yes (λ κs x f. refl), tt))
