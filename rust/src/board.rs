@@ -76,14 +76,14 @@ impl Mirroring {
 /// use biekkarul::{Board, Mode, Refusal};
 /// use std::sync::Arc;
 ///
-/// let mut image = vec![0x4E, 0x45, 0x53, 0x1A, 1, 0];
-/// image.resize(16_400, 0xEA);
+/// let mut image = b"NES\x1A\x01\x00\0\0\0\0\0\0\0\0\0\0".to_vec(); // NROM, one PRG block
+/// image.resize(16 + 16_384, 0xEA);
 ///
 /// let borrowing = Board::load(&image[..], Mode::House)?;
 /// let sharing: Board<Arc<[u8]>> = Board::load(image.clone().into(), Mode::Board)?;
 /// let owning: Board = Board::load(image.clone(), Mode::House)?;
-/// for board in [borrowing.read(0x8000), sharing.read(0x8000), owning.read(0x8000)] {
-///     assert_eq!(board, Ok(0xEA));
+/// for answer in [borrowing.read(0x8000), sharing.read(0x8000), owning.read(0x8000)] {
+///     assert_eq!(answer, Ok(0xEA));
 /// }
 /// # Ok::<(), Refusal>(())
 /// ```

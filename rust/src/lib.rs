@@ -7,8 +7,9 @@
 //! ```
 //! use biekkarul::{Board, Mode, Refusal};
 //!
-//! /// One CPU cycle of a run that is played again.
-//! fn step(board: &mut Board<&[u8]>) -> Result<u8, Refusal> {
+//! fn play(image: &[u8], saved_game: &[u8; 8192]) -> Result<u8, Refusal> {
+//!     let mut board = Board::load(image, Mode::House)?;
+//!     board.prg_ram_mut().copy_from_slice(saved_game);
 //!     if let Some(mirroring) = board.write(0xA000, 0x01)? {
 //!         println!("the screens turn: {mirroring:?}");
 //!     }
@@ -16,12 +17,6 @@
 //!         println!("an IRQ");
 //!     }
 //!     board.read(0x8000)
-//! }
-//!
-//! fn play(image: &[u8], saved_game: &[u8; 8192]) -> Result<u8, Refusal> {
-//!     let mut board = Board::load(image, Mode::House)?;
-//!     board.prg_ram_mut().copy_from_slice(saved_game);
-//!     step(&mut board)
 //! }
 //! # let mut image = vec![0x4E, 0x45, 0x53, 0x1A, 1, 1, 0x41, 0];
 //! # image.resize(16 + 16_384 + 8_192, 7);

@@ -63,8 +63,9 @@ fn p6_one_byte_short() {
 #[test]
 fn p7_control_19() {
     let mut board = load(MMC1 | VERTICAL, 2, 1, Mode::House);
-    for bit in [1, 1, 0, 0] {
+    for (bit, serial) in [(1, 2), (1, 6), (0, 10), (0, 18)] {
         assert_eq!(board.write(0x8000, bit), Ok(None));
+        assert_eq!(digit(&board.state(), 2, 10, 32), serial, "serial register");
     }
     assert_eq!(board.write(0x8000, 1), Ok(Some(Mirroring::Horizontal)));
     assert_eq!(digit(&board.state(), 2, 15, 4), 0, "PRG mode");

@@ -113,7 +113,18 @@ fn call_by_call() {
     assert_eq!(board.clock(), Ok(true));
     assert_eq!(board.write(0x8001, 0x08), Ok(None));
     assert_eq!(board.read(0x1000), Err(Refusal::BankPastData));
+    assert_eq!(board.state(), STATE_AT_THE_END);
 }
+
+/// docs/ABI.md decodes these bytes by hand.
+#[rustfmt::skip]
+const STATE_AT_THE_END: [u8; 40] = [
+    0x50, 0x01, 0x01, 0x01, 0, 0, 0, 0,
+    0x10, 0x60, 0, 0, 0, 0, 0, 0,
+    0, 0, 0, 0, 0, 0, 0, 0,
+    0, 0, 0x02, 0, 0, 0, 0, 0,
+    0x01, 0x01, 0x22, 0, 0, 0, 0, 0,
+];
 
 /// In board mode the same events give other answers: the reload clock counts, the disabling write is
 /// taken, a notice is compared with the current mirroring, and bank 8 of 8 is bank 0.

@@ -1,0 +1,18 @@
+#!/usr/bin/env bash
+# include/biekkarul.h is strict C, and a C program that calls every exported function gets the right answers.
+set -uo pipefail
+cd "$(dirname "${BASH_SOURCE[0]}")/.." || exit 2
+source tests/need.bash
+
+need_c || exit 1
+folder=$(library_folder) || exit 1
+work=$(mktemp -d)
+trap 'rm -rf "$work"' EXIT
+
+gcc -O1 -Wall -Wextra -Werror -std=c99 -pedantic -Iinclude tests/c/calls.c "$folder/libexports.a" -o "$work/calls" ||
+  { echo "tests/c/calls.c does not build"; exit 1; }
+if command -v g++ >/dev/null; then
+  g++ -Wall -Wextra -Werror -pedantic -fsyntax-only -x c++ include/biekkarul.h ||
+    { echo "include/biekkarul.h is no C++"; exit 1; }
+fi
+"$work/calls"
