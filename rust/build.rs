@@ -50,6 +50,13 @@ fn check_target() -> Result<(), String> {
 }
 
 fn prebuilt(folder: &Path) -> Result<PathBuf, String> {
+    // Cargo runs this in the crate's folder, which is seldom where the variable was set.
+    if !folder.is_absolute() {
+        return Err(format!(
+            "BIEKKARUL_LIB is '{}': name the folder by its full path",
+            folder.display()
+        ));
+    }
     let archive = folder.join(ARCHIVE);
     println!("cargo:rerun-if-changed={}", archive.display());
     if archive.is_file() {
@@ -62,15 +69,18 @@ fn prebuilt(folder: &Path) -> Result<PathBuf, String> {
 }
 
 fn from_repository() -> Result<PathBuf, String> {
-    let root = PathBuf::from(variable("CARGO_MANIFEST_DIR")?).join("..");
+    let crate_folder = PathBuf::from(variable("CARGO_MANIFEST_DIR")?);
+    let root = crate_folder
+        .parent()
+        .ok_or("the crate stands in no repository")?;
     let archive = root.join("target").join("staticlib").join(ARCHIVE);
-    println!("cargo:rerun-if-env-changed=PATH");
     if on_path("rt") {
         // The sources decide; the archive is written by this very run, so cargo must not watch it.
         println!("cargo:rerun-if-changed=../crates");
         println!("cargo:rerun-if-changed=../crates.txt");
-        make(&root)?;
+        make(root)?;
     } else {
+        println!("cargo:rerun-if-env-changed=PATH");
         println!("cargo:rerun-if-changed={}", archive.display());
     }
     if archive.is_file() {

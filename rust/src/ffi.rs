@@ -61,6 +61,7 @@ extern "C" {
     fn biekkarul_clock(state: *mut u8, state_length: usize) -> u16;
 }
 
+#[inline]
 pub(crate) fn header(image: &[u8], fields: &mut [u8]) -> u16 {
     // SAFETY: both pairs are whole slices, and `fields` is exclusive, so it is not part of `image`.
     unsafe {
@@ -73,6 +74,7 @@ pub(crate) fn header(image: &[u8], fields: &mut [u8]) -> u16 {
     }
 }
 
+#[inline]
 pub(crate) fn load(
     image: &[u8],
     mode: u8,
@@ -97,6 +99,7 @@ pub(crate) fn load(
     }
 }
 
+#[inline]
 pub(crate) fn read(
     state: &[u8],
     image: &[u8],
@@ -121,6 +124,7 @@ pub(crate) fn read(
     }
 }
 
+#[inline]
 pub(crate) fn write(
     state: &mut [u8],
     image: &[u8],
@@ -147,6 +151,7 @@ pub(crate) fn write(
     }
 }
 
+#[inline]
 pub(crate) fn clock(state: &mut [u8]) -> u16 {
     // SAFETY: the pair is a whole slice and exclusive. Every state is taken.
     unsafe { biekkarul_clock(state.as_mut_ptr(), state.len()) }

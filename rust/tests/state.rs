@@ -121,6 +121,20 @@ fn a_state_that_no_board_could_have_is_refused() {
     }
 }
 
+/// 31 is the one serial digit that no MMC1 board has.
+#[test]
+fn a_serial_register_that_is_none_is_refused() {
+    let bytes = image(MMC1, 2, 1);
+    for mode in BOTH_MODES {
+        let state = load(MMC1, 2, 1, mode).state();
+        for serial in 0..32 {
+            let mut other = state;
+            other[17] = (other[17] & 0x83) | serial << 2;
+            assert_eq!(restore(&bytes, &other).is_ok(), serial < 31, "{serial}");
+        }
+    }
+}
+
 #[test]
 fn a_clone_goes_its_own_way() {
     let mut first = load(MMC3, 2, 1, Mode::House);
