@@ -15,7 +15,7 @@ foreign=$(nm -u "$folder/libexports.a" | awk '$1 == "U" && $2 != "memset" { prin
 changing=$(nm "$folder/libexports.a" | awk '$2 ~ /^[bBdDC]$/ { print $3 }')
 [ -z "$changing" ] || { echo "libexports.a has data that can change: $changing"; exit 1; }
 
-gcc -O1 -Wall -Wextra -Werror -std=c99 -pedantic -Iinclude tests/c/calls.c "$folder/libexports.a" -o "$work/calls" ||
+gcc -O1 -Wall -Wextra -Werror -std=c99 -pedantic -Iinclude -o "$work/calls" tests/c/calls.c "$folder/libexports.a" ||
   { echo "tests/c/calls.c does not build"; exit 1; }
 if command -v g++ >/dev/null; then
   g++ -Wall -Wextra -Werror -pedantic -fsyntax-only -x c++ include/biekkarul.h ||

@@ -3,7 +3,8 @@
 # install PACKAGE: from Debian, where that can be done; says nothing.
 install() {
   command -v apt-get >/dev/null && [ "$(id -u)" -eq 0 ] || return
-  { apt-get update && DEBIAN_FRONTEND=noninteractive apt-get install -y --no-install-recommends "$1"; } >/dev/null 2>&1
+  export DEBIAN_FRONTEND=noninteractive
+  { apt-get update && apt-get install -y --no-install-recommends "$1"; } >/dev/null 2>&1
 }
 
 # need NAME PACKAGE COMMAND..: the command succeeds, if need be once the package is installed.
@@ -17,7 +18,8 @@ need() {
 }
 
 need_c() {
-  need "a C compiler (gcc)" gcc command -v gcc && need "the C library's headers" libc6-dev gcc -E -include stdio.h -x c /dev/null
+  need "a C compiler (gcc)" gcc command -v gcc &&
+    need "the C library's headers" libc6-dev gcc -E -include stdio.h -x c /dev/null
 }
 
 need_cargo() { need "cargo" cargo command -v cargo && need_c; }

@@ -46,8 +46,13 @@ refuses() {
   [ "$got" -eq "$status" ] && [ "$(cat "$work/out")" = "$text" ] && grep -qF -- "$message" "$work/err"
 }
 
+# The program tracerun, where it has been built, prints the same text.
+as_tracerun() { diff <(target/bin/tracerun <"$1") <(replay "$1" 2>/dev/null); }
+
 # A build that takes the library from the folder, in a folder of its own.
-build_with() { BIEKKARUL_LIB=$1 cargo build --offline --manifest-path "$manifest" --target-dir "$work/target"; }
+build_with() {
+  BIEKKARUL_LIB=$1 cargo build --offline --manifest-path "$manifest" --target-dir "$work/target"
+}
 
 build_without() {
   ! build_with "$work" 2>"$work/err"
@@ -73,11 +78,19 @@ step "two arguments" refuses 2 "" "usage: replay FILE" "$sample.trace" "$sample.
 step "a missing file" refuses 2 "" "cannot be read" "$work/missing"
 step "a directory" refuses 2 "" "is a directory" "$work"
 step "an empty file" refuses 1 "refused 15" "is empty" "$work/empty"
-step "a truncated trace" refuses 1 "refused 15" "the image has 24592 bytes, but only 994 bytes are left" "$work/truncated"
-step "a trace short of one byte" refuses 1 "refused 15" "event 15 has 4 bytes, but only 3 bytes are left" "$work/one_short"
+step "a truncated trace" \
+  refuses 1 "refused 15" "the image has 24592 bytes, but only 994 bytes are left" "$work/truncated"
+step "a trace short of one byte" \
+  refuses 1 "refused 15" "event 15 has 4 bytes, but only 3 bytes are left" "$work/one_short"
 step "a byte left over" refuses 1 "refused 15" "1 byte after the last event" "$work/one_long"
 step "a file that is no trace" refuses 1 "refused 15" "the version is 0" "$work/zeros"
 step "a refused load" refuses 1 "refused 3" "ImageNotInes" "$work/no_magic"
+
+if [ -x target/bin/tracerun ]; then
+  for file in "$sample.trace" "$work"/{empty,truncated,one_short,one_long,zeros,no_magic}; do
+    step "tracerun's text of ${file##*/}" as_tracerun "$file"
+  done
+fi
 
 step "a library named by BIEKKARUL_LIB" build_with "$folder"
 step "a folder without the library" build_without

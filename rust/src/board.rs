@@ -260,7 +260,7 @@ impl<I> Board<I> {
         &mut self.prg_ram
     }
 
-    /// CHR RAM; zeros where the cartridge has CHR ROM.
+    /// CHR RAM; not used where the cartridge has CHR ROM.
     pub fn chr_ram(&self) -> &[u8; RAM_LENGTH] {
         &self.chr_ram
     }
