@@ -12,14 +12,14 @@ trap 'rm -rf "$work"' EXIT
 export RUSTFLAGS="-D warnings" RUSTDOCFLAGS="-D warnings"
 manifest=rust/Cargo.toml
 sample=rust/examples/worked_case
-done=0
+passed=0
 failed=0
 
 step() { # step NAME COMMAND..: its output is shown only where it fails
   local name=$1
   shift
   if "$@" >"$work/log" 2>&1; then
-    done=$((done + 1))
+    passed=$((passed + 1))
   else
     cat "$work/log"
     echo "wrapper: $name failed"
@@ -95,5 +95,5 @@ fi
 step "a library named by BIEKKARUL_LIB" build_with "$folder"
 step "a folder without the library" build_without
 
-echo "wrapper: $done steps passed, $failed failed"
+echo "wrapper: $passed steps passed, $failed failed"
 [ "$failed" -eq 0 ]

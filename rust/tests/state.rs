@@ -3,22 +3,9 @@
 mod common;
 
 use biekkarul::{Board, Mode, Refusal, RAM_LENGTH, STATE_LENGTH};
-use common::{image, kept, load, BOTH_MODES, CNROM, MMC1, MMC3, NROM, UXROM};
+use common::{image, kept, load, Numbers, BOTH_MODES, CNROM, MMC1, MMC3, NROM, UXROM};
 
 const RAM: [u8; RAM_LENGTH] = [0; RAM_LENGTH];
-
-/// A fixed sequence of numbers without a pattern that a board would follow.
-struct Numbers(u64);
-
-impl Numbers {
-    fn next(&mut self) -> u64 {
-        self.0 = self
-            .0
-            .wrapping_mul(6_364_136_223_846_793_005)
-            .wrapping_add(1_442_695_040_888_963_407);
-        self.0 >> 33
-    }
-}
 
 fn restore(bytes: &[u8], state: &[u8]) -> Result<(), Refusal> {
     Board::restore(bytes, state, &RAM, &RAM).map(|_| ())

@@ -67,3 +67,16 @@ pub fn digit(state: &[u8; STATE_LENGTH], word: usize, bit: u32, modulo: u64) -> 
     bytes.copy_from_slice(&state[8 * word..8 * word + 8]);
     (u64::from_le_bytes(bytes) >> bit) % modulo
 }
+
+/// A fixed sequence of numbers without a pattern that a board would follow.
+pub struct Numbers(pub u64);
+
+impl Numbers {
+    pub fn next(&mut self) -> u64 {
+        self.0 = self
+            .0
+            .wrapping_mul(6_364_136_223_846_793_005)
+            .wrapping_add(1_442_695_040_888_963_407);
+        self.0 >> 33
+    }
+}
