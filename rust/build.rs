@@ -1,8 +1,9 @@
 //! Finds or makes the static library `libexports.a` and tells cargo to link it.
 //!
 //! 1. `BIEKKARUL_LIB` names a folder: the library in it is taken as it is.
-//! 2. `rt` is on the path: `rt staticlib exports` proves and makes it in the repository.
-//! 3. Neither: `target/staticlib/libexports.a` of the repository is taken, if it is there.
+//! 2. The repository's `target/staticlib` has one that is newer than every source: it is taken.
+//! 3. `rt` is on the path: `rt staticlib exports` proves and makes it there, which may take minutes.
+//! 4. There is an older one and no `rt`: it is taken, with a warning.
 //!
 //! The library is copied to cargo's own folder, so that clearing the repository's `target/` does not
 //! break a build that cargo takes to be fresh.
@@ -11,6 +12,7 @@ use std::env;
 use std::fs;
 use std::path::{Path, PathBuf};
 use std::process::{exit, Command};
+use std::time::SystemTime;
 
 const ARCHIVE: &str = "libexports.a";
 
@@ -74,17 +76,29 @@ fn from_repository() -> Result<PathBuf, String> {
         .parent()
         .ok_or("the crate stands in no repository")?;
     let archive = root.join("target").join("staticlib").join(ARCHIVE);
-    if on_path("rt") {
-        // The sources decide; the archive is written by this very run, so cargo must not watch it.
-        println!("cargo:rerun-if-changed=../crates");
-        println!("cargo:rerun-if-changed=../crates.txt");
-        make(root)?;
-    } else {
-        println!("cargo:rerun-if-env-changed=PATH");
-        println!("cargo:rerun-if-changed={}", archive.display());
+    let sources = [root.join("crates"), root.join("crates.txt")];
+    for source in &sources {
+        println!("cargo:rerun-if-changed={}", source.display());
     }
+    let fresh = changed(&archive) >= sources.iter().filter_map(|path| changed(path)).max();
+    if !fresh || !archive.is_file() {
+        remake(root, &archive)?;
+    }
+    Ok(archive)
+}
+
+fn remake(root: &Path, archive: &Path) -> Result<(), String> {
+    if on_path("rt") {
+        return make(root, archive);
+    }
+    // Either of these may be mended later. Where `rt` is there, the sources alone decide.
+    println!("cargo:rerun-if-env-changed=PATH");
+    println!("cargo:rerun-if-changed={}", archive.display());
     if archive.is_file() {
-        return Ok(archive);
+        println!(
+            "cargo:warning={ARCHIVE} is older than its sources, and rt is not on the PATH to make it"
+        );
+        return Ok(());
     }
     Err(format!(
         "no {ARCHIVE}: the Rattle toolchain (rt) is not on the PATH to make it, BIEKKARUL_LIB names no \
@@ -93,17 +107,28 @@ fn from_repository() -> Result<PathBuf, String> {
     ))
 }
 
-fn make(root: &Path) -> Result<(), String> {
+/// When a file, or anything in a folder, was last changed.
+fn changed(path: &Path) -> Option<SystemTime> {
+    let own = fs::metadata(path).and_then(|data| data.modified()).ok();
+    let within = fs::read_dir(path).into_iter().flatten().flatten();
+    within
+        .filter_map(|entry| changed(&entry.path()))
+        .chain(own)
+        .max()
+}
+
+fn make(root: &Path, archive: &Path) -> Result<(), String> {
     let run = Command::new("rt")
         .args(["staticlib", "exports"])
         .current_dir(root)
         .output()
         .map_err(|error| format!("rt cannot be started: {error}"))?;
-    if run.status.success() {
+    if run.status.success() && archive.is_file() {
         return Ok(());
     }
     Err(format!(
-        "'rt staticlib exports' failed ({}) and said:\n{}{}",
+        "'rt staticlib exports' made no '{}' ({}) and said:\n{}{}",
+        archive.display(),
         run.status,
         String::from_utf8_lossy(&run.stdout),
         String::from_utf8_lossy(&run.stderr)

@@ -60,6 +60,37 @@ build_without() {
   grep -qF "which has no libexports.a" "$work/err"
 }
 
+# The build script in a repository of its own, with a stand-in for rt that notes each run.
+repository=$work/repository
+make_repository() {
+  mkdir -p "$repository/crates" "$repository/rust" "$work/bin"
+  cp -r rust/src rust/build.rs rust/Cargo.toml rust/Cargo.lock "$repository/rust"
+  cat >"$work/bin/rt" <<END
+#!/usr/bin/env bash
+echo "\$*" >>"$work/runs"
+[ ! -e "$work/broken" ] && mkdir -p target/staticlib && cp "$folder/libexports.a" target/staticlib
+END
+  chmod +x "$work/bin/rt"
+}
+
+build_there() {
+  env -u BIEKKARUL_LIB PATH="$work/bin:$PATH" cargo build --offline \
+    --manifest-path "$repository/rust/Cargo.toml" --target-dir "$work/target" "$@"
+}
+
+runs_rt() { # runs_rt COUNT ARGUMENT..: builds with the arguments; rt has then been run so often in all
+  local count=$1
+  shift
+  build_there "$@" && [ "$(grep -cxF "staticlib exports" "$work/runs")" -eq "$count" ]
+}
+
+says_that_rt_failed() {
+  touch "$work/broken" "$repository/crates/changed"
+  ! build_there 2>"$work/err"
+  cat "$work/err"
+  grep -qF "'rt staticlib exports' made no" "$work/err"
+}
+
 step "layout (cargo fmt --check)" layout
 step "unsafe stands in ffi.rs only" only_ffi_is_unsafe
 step "cargo build" cargo build --offline --manifest-path "$manifest" --all-targets
@@ -94,6 +125,13 @@ fi
 
 step "a library named by BIEKKARUL_LIB" build_with "$folder"
 step "a folder without the library" build_without
+
+make_repository
+step "rt makes the library" runs_rt 1
+step "a library newer than its sources is not made again" runs_rt 1 --release
+touch "$repository/crates/changed"
+step "a library older than its sources is made again" runs_rt 2
+step "a failing rt" says_that_rt_failed
 
 echo "wrapper: $passed steps passed, $failed failed"
 [ "$failed" -eq 0 ]
