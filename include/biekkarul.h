@@ -1,0 +1,107 @@
+/*
+ * Proved NES cartridge boards: the functions of the static library libexports.a (x86-64 Linux).
+ * docs/ABI.md has the layout of the state and the rules in full.
+ *
+ * Every lent buffer is a pointer and a length. A pointer is not null, also where the length is 0, and is
+ * good for that many bytes; a buffer that is not const must overlap with no other buffer of the call.
+ * That is all that a caller owes: every length, every byte, every mode and every address is taken.
+ *
+ * Every answer is a number below 256, or 256 + N for refusal N. After a refusal every lent buffer holds
+ * what it held. No function keeps a pointer or has a state of its own, so calls on different boards may
+ * run on different threads.
+ */
+#ifndef BIEKKARUL_H
+#define BIEKKARUL_H
+
+#include <stddef.h>
+#include <stdint.h>
+
+#ifdef __cplusplus
+extern "C" {
+#endif
+
+/* Lengths of the lent buffers, in bytes. */
+#define BIEKKARUL_STATE_LENGTH 40  /* a board */
+#define BIEKKARUL_RAM_LENGTH 8192  /* PRG RAM, and CHR RAM, whether the board uses them or not */
+#define BIEKKARUL_FIELDS_LENGTH 12 /* what the header reader writes */
+
+/* Modes. */
+#define BIEKKARUL_HOUSE 0 /* as the emulator potatis answers, with a refusal where it panics */
+#define BIEKKARUL_BOARD 1 /* as the real board answers */
+
+/* What a write answers where it gives notice of a mirroring; 0 where it gives none. */
+#define BIEKKARUL_HORIZONTAL 0x48 /* 'H' */
+#define BIEKKARUL_VERTICAL 0x56   /* 'V' */
+#define BIEKKARUL_UPPER 0x55      /* 'U': the upper screen everywhere */
+#define BIEKKARUL_LOWER 0x4C      /* 'L': the lower screen everywhere */
+
+/* Whether an answer is a refusal, and its number. */
+#define BIEKKARUL_IS_REFUSED(answer) ((answer) >= 256)
+#define BIEKKARUL_REFUSAL(answer) ((answer) - 256)
+
+/* The refusals. */
+#define BIEKKARUL_HEADER_TOO_SHORT 1        /* header: fewer than 16 bytes */
+#define BIEKKARUL_HEADER_NOT_INES 2         /* header: bytes 0-3 are not 4E 45 53 1A */
+#define BIEKKARUL_IMAGE_NOT_INES 3          /* load: fewer than 16,400 bytes, or bytes 0-3 wrong */
+#define BIEKKARUL_MAPPER_NOT_TAKEN 4        /* load: mapper above 4 */
+#define BIEKKARUL_TRAINER_OR_FOUR_SCREEN 5  /* load: byte 6 has bit 2 or bit 3 */
+#define BIEKKARUL_PRG_COUNT_NOT_TAKEN 6     /* load: PRG count 0; or above 2 for mappers 0 and 3 */
+#define BIEKKARUL_IMAGE_TOO_SHORT 7         /* load: shorter than 16 + 16,384 x PRG + 8,192 x CHR */
+#define BIEKKARUL_COUNT_NO_POWER_OF_TWO 8   /* load, board mode: PRG, or a CHR that is not 0 */
+#define BIEKKARUL_RAM_NOT_8K 9              /* load, read, write: a RAM is not exactly 8,192 bytes */
+#define BIEKKARUL_STATE_OUT_OF_RANGE 10     /* a state that no board could have; see each function */
+#define BIEKKARUL_BANK_PAST_DATA 11         /* house read: the bank ends past the PRG or CHR data */
+#define BIEKKARUL_NO_CHR_RAM 12             /* house write: NROM, MMC1, UxROM, 0000-1FFF, CHR ROM */
+#define BIEKKARUL_NO_SUCH_PLACE 13          /* house CNROM: 2000-7FFF; or 8000-BFFF with PRG 1 */
+#define BIEKKARUL_IRQ_PENDING 14            /* house MMC3: even write to E000-FFFF, counter 0 or 1 */
+
+/*
+ * Reads the header: bytes 4 to 15 of the image go to fields as they stand.
+ * Answers 0. Refusals, the first that applies: 10 (fields_length is not 12), 1, 2.
+ */
+uint16_t biekkarul_header(const uint8_t *image, size_t image_length,
+                          uint8_t *fields, size_t fields_length);
+
+/*
+ * Loads an image, header included: writes the state and fills both RAMs with zero.
+ * Answers 0. Refusals, the first that applies: 9, 10 (state_length is not 40, or mode is neither 0 nor 1),
+ * 3, 4, 5, 6, 7, 8.
+ */
+uint16_t biekkarul_load(const uint8_t *image, size_t image_length, uint8_t mode,
+                        uint8_t *state, size_t state_length,
+                        uint8_t *prg_ram, size_t prg_ram_length,
+                        uint8_t *chr_ram, size_t chr_ram_length);
+
+/*
+ * The byte at an address. The image is the one that was loaded.
+ * Answers the byte. Refusals, the first that applies: 9, 10 (the state is out of range, or image_length is
+ * not the one loaded), then 11 or 13 of the board.
+ */
+uint16_t biekkarul_read(const uint8_t *state, size_t state_length,
+                        const uint8_t *image, size_t image_length,
+                        const uint8_t *prg_ram, size_t prg_ram_length,
+                        const uint8_t *chr_ram, size_t chr_ram_length,
+                        uint16_t address);
+
+/*
+ * Writes a byte at an address; the state and the RAMs become the next ones.
+ * Answers the letter of a notice, or 0. Refusals, the first that applies: 9, 10 (as in a read), then 12, 13
+ * or 14 of the board.
+ */
+uint16_t biekkarul_write(uint8_t *state, size_t state_length,
+                         const uint8_t *image, size_t image_length,
+                         uint8_t *prg_ram, size_t prg_ram_length,
+                         uint8_t *chr_ram, size_t chr_ram_length,
+                         uint16_t address, uint8_t value);
+
+/*
+ * One clock of MMC3's counter; on other boards nothing moves.
+ * Answers 1 when an IRQ comes, else 0. Refused with 10 when the state is out of range.
+ */
+uint16_t biekkarul_clock(uint8_t *state, size_t state_length);
+
+#ifdef __cplusplus
+}
+#endif
+
+#endif

@@ -1,0 +1,182 @@
+//! A board in the shape of potatis's bus, to stand where the emulator has its mappers.
+//!
+//! The methods have the names and parameters that the emulator calls. Its traits belong to it, so it
+//! implements them for a type of its own around [`BusBoard`], one line each:
+//!
+//! ```
+//! use biekkarul::bus::BusBoard;
+//! use biekkarul::{Board, Mirroring, Mode, Refusal};
+//! use std::cell::{Cell, RefCell};
+//! use std::rc::Rc;
+//!
+//! // What an emulator asks of a cartridge on its bus.
+//! trait Mapper {
+//!     fn read8(&self, address: u16) -> u8;
+//!     fn write8(&mut self, val: u8, address: u16);
+//!     fn irq(&mut self) -> bool;
+//!     fn on_runtime_mirroring(&mut self, callback: Box<dyn FnMut(&Mirroring)>);
+//! }
+//!
+//! struct Proved(BusBoard);
+//!
+//! impl Mapper for Proved {
+//!     fn read8(&self, address: u16) -> u8 {
+//!         self.0.read8(address)
+//!     }
+//!     fn write8(&mut self, val: u8, address: u16) {
+//!         self.0.write8(val, address)
+//!     }
+//!     fn irq(&mut self) -> bool {
+//!         self.0.irq()
+//!     }
+//!     fn on_runtime_mirroring(&mut self, callback: Box<dyn FnMut(&Mirroring)>) {
+//!         self.0.on_runtime_mirroring(callback)
+//!     }
+//! }
+//!
+//! # let mut image = vec![0x4E, 0x45, 0x53, 0x1A, 1, 1, 0x41, 0];
+//! # image.resize(16 + 16_384 + 8_192, 0);
+//! let board = Board::load(image, Mode::House)?;
+//! let screens = Rc::new(Cell::new(board.header_mirroring()));
+//! let rom: Rc<RefCell<dyn Mapper>> = Rc::new(RefCell::new(Proved(BusBoard::new(board))));
+//!
+//! let turned = Rc::clone(&screens);
+//! rom.borrow_mut()
+//!     .on_runtime_mirroring(Box::new(move |mirroring| turned.set(*mirroring)));
+//! rom.borrow_mut().write8(0x01, 0xA000);
+//! assert_eq!(screens.get(), Mirroring::Horizontal);
+//! # Ok::<(), Refusal>(())
+//! ```
+//!
+//! # Where potatis panics
+//!
+//! The bus has no room for a refusal in its answers. So the adapter keeps the first one for
+//! [`BusBoard::refusal`], and the run is over: that call and every later one answer 0 or false, move
+//! nothing and give no notice. The server asks after each frame, or at the end of the run, and does not
+//! count a run that was refused.
+//!
+//! ```
+//! # use biekkarul::{bus::BusBoard, Board, Mode, Refusal};
+//! # let mut image = vec![0x4E, 0x45, 0x53, 0x1A, 2, 0, 0x20, 0];
+//! # image.resize(16 + 2 * 16_384, 7);
+//! let mut cartridge = BusBoard::new(Board::load(image, Mode::House)?);
+//! assert_eq!(cartridge.read8(0x8000), 7);
+//! cartridge.write8(2, 0x8000); // UxROM has banks 0 and 1 here
+//! assert_eq!(cartridge.refusal(), None);
+//! assert_eq!(cartridge.read8(0x8000), 0);
+//! assert_eq!(cartridge.refusal(), Some(Refusal::BankPastData));
+//! # Ok::<(), Refusal>(())
+//! ```
+
+use std::cell::Cell;
+use std::fmt;
+
+use crate::board::{Board, Mirroring};
+use crate::refusal::Refusal;
+
+/// What is told of each notice.
+type Callback = Box<dyn FnMut(&Mirroring)>;
+
+/// A [`Board`] that is called as potatis calls its mappers.
+pub struct BusBoard<I = Vec<u8>> {
+    board: Board<I>,
+    callback: Option<Callback>,
+    // A cell, since `read8` takes `&self`, as the emulator's does.
+    refusal: Cell<Option<Refusal>>,
+}
+
+impl<I: AsRef<[u8]>> BusBoard<I> {
+    /// Puts a board on the bus.
+    pub fn new(board: Board<I>) -> Self {
+        BusBoard {
+            board,
+            callback: None,
+            refusal: Cell::new(None),
+        }
+    }
+
+    /// The byte at an address, or 0 once a call was refused.
+    #[inline]
+    pub fn read8(&self, address: u16) -> u8 {
+        if self.is_over() {
+            return 0;
+        }
+        self.board.read(address).unwrap_or_else(|refusal| {
+            self.end(refusal);
+            0
+        })
+    }
+
+    /// Writes a byte and tells the callback of a notice; nothing once a call was refused.
+    ///
+    /// Without a callback the notice goes nowhere; potatis would panic.
+    #[inline]
+    pub fn write8(&mut self, val: u8, address: u16) {
+        if self.is_over() {
+            return;
+        }
+        match self.board.write(address, val) {
+            Ok(None) => (),
+            Ok(Some(mirroring)) => self.tell(mirroring),
+            Err(refusal) => self.end(refusal),
+        }
+    }
+
+    /// One clock of the interrupt counter; false once a call was refused.
+    #[inline]
+    pub fn irq(&mut self) -> bool {
+        if self.is_over() {
+            return false;
+        }
+        self.board.clock().unwrap_or_else(|refusal| {
+            self.end(refusal);
+            false
+        })
+    }
+
+    /// Sets what is told of each notice, in place of what was set before.
+    ///
+    /// The screens start with [`Board::header_mirroring`], of which no notice is given.
+    pub fn on_runtime_mirroring(&mut self, callback: Box<dyn FnMut(&Mirroring)>) {
+        self.callback = Some(callback);
+    }
+
+    /// The first refusal. From it on nothing has moved.
+    pub fn refusal(&self) -> Option<Refusal> {
+        self.refusal.get()
+    }
+
+    /// The board, to look at.
+    pub fn board(&self) -> &Board<I> {
+        &self.board
+    }
+
+    /// Takes the board off the bus, as it was before the first refusal if there was one.
+    pub fn into_board(self) -> Board<I> {
+        self.board
+    }
+
+    fn is_over(&self) -> bool {
+        self.refusal.get().is_some()
+    }
+
+    #[cold]
+    fn end(&self, refusal: Refusal) {
+        self.refusal.set(Some(refusal));
+    }
+
+    fn tell(&mut self, mirroring: Mirroring) {
+        if let Some(callback) = &mut self.callback {
+            callback(&mirroring);
+        }
+    }
+}
+
+impl<I> fmt::Debug for BusBoard<I> {
+    fn fmt(&self, f: &mut fmt::Formatter<'_>) -> fmt::Result {
+        f.debug_struct("BusBoard")
+            .field("board", &self.board)
+            .field("refusal", &self.refusal.get())
+            .finish_non_exhaustive()
+    }
+}

@@ -1,0 +1,158 @@
+//! The exported functions, each behind a safe function over slices. The only module with `unsafe`.
+//!
+//! Every call below rests on the same three facts:
+//!
+//! - **Valid.** Each pointer and length come from one Rust slice, so the memory is there, initialized,
+//!   and stays borrowed until the call returns. A slice's pointer is never null, even with length 0.
+//! - **No overlap.** What the library writes is a `&mut` slice, which Rust lets overlap with no other
+//!   argument. Shared slices are only read.
+//! - **Nothing more.** The library is proved to touch no byte outside the lent lengths, for every input;
+//!   it keeps no pointer and has no state of its own, so calls from several threads do not meet.
+//!
+//! The signatures are those of `include/biekkarul.h`, where `size_t` is `usize` on x86-64 Linux.
+
+#![allow(unsafe_code)]
+
+extern "C" {
+    fn biekkarul_header(
+        image: *const u8,
+        image_length: usize,
+        fields: *mut u8,
+        fields_length: usize,
+    ) -> u16;
+
+    fn biekkarul_load(
+        image: *const u8,
+        image_length: usize,
+        mode: u8,
+        state: *mut u8,
+        state_length: usize,
+        prg_ram: *mut u8,
+        prg_ram_length: usize,
+        chr_ram: *mut u8,
+        chr_ram_length: usize,
+    ) -> u16;
+
+    fn biekkarul_read(
+        state: *const u8,
+        state_length: usize,
+        image: *const u8,
+        image_length: usize,
+        prg_ram: *const u8,
+        prg_ram_length: usize,
+        chr_ram: *const u8,
+        chr_ram_length: usize,
+        address: u16,
+    ) -> u16;
+
+    fn biekkarul_write(
+        state: *mut u8,
+        state_length: usize,
+        image: *const u8,
+        image_length: usize,
+        prg_ram: *mut u8,
+        prg_ram_length: usize,
+        chr_ram: *mut u8,
+        chr_ram_length: usize,
+        address: u16,
+        value: u8,
+    ) -> u16;
+
+    fn biekkarul_clock(state: *mut u8, state_length: usize) -> u16;
+}
+
+#[inline]
+pub(crate) fn header(image: &[u8], fields: &mut [u8]) -> u16 {
+    // SAFETY: both pairs are whole slices, and `fields` is exclusive, so it is not part of `image`.
+    unsafe {
+        biekkarul_header(
+            image.as_ptr(),
+            image.len(),
+            fields.as_mut_ptr(),
+            fields.len(),
+        )
+    }
+}
+
+#[inline]
+pub(crate) fn load(
+    image: &[u8],
+    mode: u8,
+    state: &mut [u8],
+    prg_ram: &mut [u8],
+    chr_ram: &mut [u8],
+) -> u16 {
+    // SAFETY: all four pairs are whole slices; the three that are written are exclusive, so neither
+    // overlaps with another or with `image`. Every `mode` is taken.
+    unsafe {
+        biekkarul_load(
+            image.as_ptr(),
+            image.len(),
+            mode,
+            state.as_mut_ptr(),
+            state.len(),
+            prg_ram.as_mut_ptr(),
+            prg_ram.len(),
+            chr_ram.as_mut_ptr(),
+            chr_ram.len(),
+        )
+    }
+}
+
+#[inline]
+pub(crate) fn read(
+    state: &[u8],
+    image: &[u8],
+    prg_ram: &[u8],
+    chr_ram: &[u8],
+    address: u16,
+) -> u16 {
+    // SAFETY: all four pairs are whole slices, and a read writes to none of them. Every state, right or
+    // wrong, and every `address` is taken.
+    unsafe {
+        biekkarul_read(
+            state.as_ptr(),
+            state.len(),
+            image.as_ptr(),
+            image.len(),
+            prg_ram.as_ptr(),
+            prg_ram.len(),
+            chr_ram.as_ptr(),
+            chr_ram.len(),
+            address,
+        )
+    }
+}
+
+#[inline]
+pub(crate) fn write(
+    state: &mut [u8],
+    image: &[u8],
+    prg_ram: &mut [u8],
+    chr_ram: &mut [u8],
+    address: u16,
+    value: u8,
+) -> u16 {
+    // SAFETY: all four pairs are whole slices; the three that are written are exclusive, so neither
+    // overlaps with another or with `image`. Every state, `address` and `value` is taken.
+    unsafe {
+        biekkarul_write(
+            state.as_mut_ptr(),
+            state.len(),
+            image.as_ptr(),
+            image.len(),
+            prg_ram.as_mut_ptr(),
+            prg_ram.len(),
+            chr_ram.as_mut_ptr(),
+            chr_ram.len(),
+            address,
+            value,
+        )
+    }
+}
+
+#[inline]
+pub(crate) fn clock(state: &mut [u8]) -> u16 {
+    // SAFETY: the pair is a whole slice and exclusive. Every state is taken.
+    unsafe { biekkarul_clock(state.as_mut_ptr(), state.len()) }
+}

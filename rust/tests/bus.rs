@@ -1,0 +1,103 @@
+//! The adapter in the shape of the emulator's bus.
+
+mod common;
+
+use std::cell::RefCell;
+use std::rc::Rc;
+
+use biekkarul::bus::BusBoard;
+use biekkarul::{Mirroring, Mode, Refusal};
+use common::{data, kept, load, MMC1, MMC3, UXROM};
+
+/// A cartridge on the bus, and the notices it has given.
+fn on_bus(byte6: u8, prg: u8, chr: u8, mode: Mode) -> (BusBoard, Rc<RefCell<Vec<Mirroring>>>) {
+    let mut cartridge = BusBoard::new(load(byte6, prg, chr, mode));
+    let notices = Rc::new(RefCell::new(Vec::new()));
+    let told = Rc::clone(&notices);
+    cartridge.on_runtime_mirroring(Box::new(move |mirroring| {
+        told.borrow_mut().push(*mirroring)
+    }));
+    (cartridge, notices)
+}
+
+#[test]
+fn answers_are_the_boards() {
+    let mut board = load(MMC3 | 1, 2, 1, Mode::House);
+    let (mut cartridge, _) = on_bus(MMC3 | 1, 2, 1, Mode::House);
+    for (address, value) in [(0xC000, 1), (0xC001, 0), (0xE001, 0), (0x6123, 9)] {
+        board.write(address, value).unwrap();
+        cartridge.write8(value, address);
+    }
+    for address in [0x0000, 0x1FFF, 0x6123, 0x8000, 0xFFFF] {
+        assert_eq!(Ok(cartridge.read8(address)), board.read(address));
+    }
+    for _ in 0..10 {
+        assert_eq!(Ok(cartridge.irq()), board.clock());
+    }
+    assert!(kept(cartridge.board()) == kept(&board));
+    assert_eq!(cartridge.refusal(), None);
+}
+
+#[test]
+fn notices_go_to_the_callback() {
+    let (mut cartridge, notices) = on_bus(MMC3 | 1, 1, 1, Mode::House);
+    for value in [1, 0, 1] {
+        cartridge.write8(value, 0xA000);
+    }
+    assert_eq!(*notices.borrow(), [Mirroring::Horizontal; 2]);
+
+    let (mut cartridge, notices) = on_bus(MMC1, 1, 1, Mode::Board);
+    for control in [0, 1, 2, 3] {
+        for bit in 0..5 {
+            cartridge.write8(control >> bit & 1, 0x8000);
+        }
+    }
+    let in_order = [
+        Mirroring::SingleScreenLower,
+        Mirroring::SingleScreenUpper,
+        Mirroring::Vertical,
+        Mirroring::Horizontal,
+    ];
+    assert_eq!(*notices.borrow(), in_order);
+}
+
+#[test]
+fn without_a_callback_a_notice_goes_nowhere() {
+    let mut cartridge = BusBoard::new(load(MMC3, 1, 1, Mode::Board));
+    cartridge.write8(0, 0xA000);
+    assert_eq!(cartridge.refusal(), None);
+    assert_eq!(cartridge.board().mirroring(), Mirroring::Vertical);
+}
+
+#[test]
+fn after_a_refused_read_nothing_moves() {
+    let (mut cartridge, notices) = on_bus(UXROM, 2, 0, Mode::House);
+    assert_eq!(cartridge.read8(0x8000), data(0));
+    cartridge.write8(2, 0x8000);
+    let before = kept(cartridge.board());
+    assert_eq!(cartridge.read8(0x8000), 0);
+    assert_eq!(cartridge.refusal(), Some(Refusal::BankPastData));
+    cartridge.write8(0, 0x8000);
+    cartridge.write8(7, 0x0000);
+    assert_eq!(cartridge.read8(0xC000), 0);
+    assert!(!cartridge.irq());
+    assert!(kept(cartridge.board()) == before);
+    assert!(notices.borrow().is_empty());
+    assert!(kept(&cartridge.into_board()) == before);
+}
+
+#[test]
+fn after_a_refused_write_nothing_moves_and_the_first_refusal_stays() {
+    let (mut cartridge, notices) = on_bus(MMC3 | 1, 1, 1, Mode::House);
+    cartridge.write8(0, 0xE001);
+    let before = kept(cartridge.board());
+    cartridge.write8(0, 0xE000);
+    assert_eq!(cartridge.refusal(), Some(Refusal::IrqPending));
+    cartridge.write8(1, 0xA000);
+    cartridge.write8(0xFF, 0x8001);
+    assert!(!cartridge.irq());
+    assert_eq!(cartridge.read8(0x8000), 0);
+    assert_eq!(cartridge.refusal(), Some(Refusal::IrqPending));
+    assert!(kept(cartridge.board()) == before);
+    assert!(notices.borrow().is_empty());
+}

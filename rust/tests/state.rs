@@ -1,0 +1,151 @@
+//! Keeping a board and taking it up again.
+
+mod common;
+
+use biekkarul::{Board, Mode, Refusal, RAM_LENGTH, STATE_LENGTH};
+use common::{image, kept, load, Numbers, BOTH_MODES, CNROM, MMC1, MMC3, NROM, UXROM};
+
+const RAM: [u8; RAM_LENGTH] = [0; RAM_LENGTH];
+
+fn restore(bytes: &[u8], state: &[u8]) -> Result<(), Refusal> {
+    Board::restore(bytes, state, &RAM, &RAM).map(|_| ())
+}
+
+#[test]
+fn a_restored_board_goes_on_as_the_first() {
+    let mut numbers = Numbers(4);
+    for (mapper, prg, chr) in [
+        (NROM, 2, 0),
+        (MMC1, 4, 0),
+        (MMC1, 2, 2),
+        (UXROM, 4, 0),
+        (CNROM, 2, 4),
+        (MMC3, 4, 2),
+    ] {
+        for mode in BOTH_MODES {
+            let mut first = load(mapper, prg, chr, mode);
+            for round in 0..200 {
+                let (address, value) = (numbers.next() as u16, numbers.next() as u8);
+                let _ = first.write(address, value);
+                let mut second = Board::restore(
+                    first.image().to_vec(),
+                    &first.state(),
+                    first.prg_ram(),
+                    first.chr_ram(),
+                )
+                .unwrap_or_else(|refusal| {
+                    panic!("mapper {mapper:02X} {mode:?} {round}: {refusal}")
+                });
+                assert!(kept(&first) == kept(&second));
+                for _ in 0..20 {
+                    let (address, value) = (numbers.next() as u16, numbers.next() as u8);
+                    assert_eq!(first.write(address, value), second.write(address, value));
+                    let address = numbers.next() as u16;
+                    assert_eq!(first.read(address), second.read(address));
+                    assert_eq!(first.clock(), second.clock());
+                }
+                assert!(kept(&first) == kept(&second));
+            }
+        }
+    }
+}
+
+#[test]
+fn rams_first_then_the_states_length_then_the_image() {
+    let bytes = image(NROM, 1, 0);
+    let state = load(NROM, 1, 0, Mode::House).state();
+    for short in [&RAM[..0], &RAM[..RAM_LENGTH - 1], &[0; RAM_LENGTH + 1][..]] {
+        for state in [&state[..], &[]] {
+            let prg = Board::restore(&bytes[..0], state, short, &RAM).unwrap_err();
+            let chr = Board::restore(&bytes[..0], state, &RAM, short).unwrap_err();
+            assert_eq!((prg, chr), (Refusal::RamNot8K, Refusal::RamNot8K));
+        }
+    }
+    for length in [0, 39, 41] {
+        let mut other = state.to_vec();
+        other.resize(length, 0);
+        assert_eq!(restore(&bytes[..0], &other), Err(Refusal::StateOutOfRange));
+    }
+    assert_eq!(restore(&bytes[..0], &state), Err(Refusal::ImageNotInes));
+    assert_eq!(restore(&bytes, &state), Ok(()));
+}
+
+#[test]
+fn a_state_of_another_cartridge_is_refused() {
+    let state = load(UXROM, 2, 0, Mode::House).state();
+    let mut longer = image(UXROM, 2, 0);
+    longer.push(0);
+    let mut marked = image(UXROM, 2, 0);
+    marked[7] = 0x08;
+    for other in [
+        image(UXROM, 1, 0),
+        image(UXROM, 2, 1),
+        image(UXROM | 1, 2, 0),
+        image(MMC1, 2, 0),
+        longer,
+        marked,
+    ] {
+        assert_eq!(restore(&other, &state), Err(Refusal::StateOutOfRange));
+    }
+    assert_eq!(restore(&image(UXROM, 2, 0), &state), Ok(()));
+}
+
+/// Every bit that a fresh NROM state has beside its cartridge is one that no NROM board sets.
+#[test]
+fn a_state_that_no_board_could_have_is_refused() {
+    let bytes = image(NROM, 1, 0);
+    for mode in BOTH_MODES {
+        let state = load(NROM, 1, 0, mode).state();
+        for bit in 24..8 * STATE_LENGTH {
+            let mut bad = state;
+            bad[bit / 8] ^= 1 << (bit % 8);
+            assert_eq!(
+                restore(&bytes, &bad),
+                Err(Refusal::StateOutOfRange),
+                "{mode:?}, bit {bit}"
+            );
+        }
+    }
+}
+
+/// 31 is the one serial digit that no MMC1 board has.
+#[test]
+fn a_serial_register_that_is_none_is_refused() {
+    let bytes = image(MMC1, 2, 1);
+    for mode in BOTH_MODES {
+        let state = load(MMC1, 2, 1, mode).state();
+        for serial in 0..32 {
+            let mut other = state;
+            other[17] = (other[17] & 0x83) | serial << 2;
+            assert_eq!(restore(&bytes, &other).is_ok(), serial < 31, "{serial}");
+        }
+    }
+}
+
+#[test]
+fn a_clone_goes_its_own_way() {
+    let mut first = load(MMC3, 2, 1, Mode::House);
+    let mut second = first.clone();
+    first.write(0x6000, 1).unwrap();
+    second.write(0x6000, 2).unwrap();
+    second.write(0x8000, 7).unwrap();
+    assert_eq!((first.read(0x6000), second.read(0x6000)), (Ok(1), Ok(2)));
+    assert!(first.state() != second.state());
+}
+
+#[test]
+fn a_saved_game_is_put_back() {
+    let mut board = load(MMC1, 2, 0, Mode::Board);
+    board.prg_ram_mut()[RAM_LENGTH - 1] = 0x77;
+    assert_eq!(board.read(0x7FFF), Ok(0x77));
+    board.write(0x6000, 0x11).unwrap();
+    board.write(0x0003, 0x22).unwrap();
+    assert_eq!((board.prg_ram()[0], board.chr_ram()[3]), (0x11, 0x22));
+}
+
+#[test]
+fn debug_shows_the_cartridge_and_not_its_bytes() {
+    let text = format!("{:?}", load(MMC3, 2, 1, Mode::House));
+    assert!(text.starts_with("Board { mode: House, mapper: 4, header_mirroring: Horizontal"));
+    assert!(text.len() < 400, "{text}");
+}

@@ -1,0 +1,509 @@
+/*
+ * Calls every exported function from C, against include/biekkarul.h, and checks its answers:
+ * document 01's P lines, the order of the refusals, and which states are taken. The last is held against a
+ * second reading of docs/ABI.md that stands here (could_be): every digit at every value, and every state
+ * that differs from a loaded one in one or two bits. Whatever is refused must leave every buffer as it was.
+ */
+#include "biekkarul.h"
+
+#include <stdio.h>
+#include <stdlib.h>
+#include <string.h>
+
+#define REFUSED(number) (256u + (number))
+#define HEADER_LENGTH 16u
+#define PRG_BLOCK 16384u
+#define CHR_BLOCK 8192u
+#define MOST 40 /* messages before we stop */
+
+enum mapper { NROM, MMC1, UXROM, CNROM, MMC3, MAPPERS };
+
+static unsigned long checks, failures;
+
+static void fail(const char *what, unsigned long got, unsigned long wanted) {
+    failures++;
+    fprintf(stderr, "calls: %s: got %lu, not %lu\n", what, got, wanted);
+    if (failures == MOST) {
+        fprintf(stderr, "calls: stopped after %d failures\n", MOST);
+        exit(1);
+    }
+}
+
+static void expect(const char *what, unsigned long got, unsigned long wanted) {
+    checks++;
+    if (got != wanted) fail(what, got, wanted);
+}
+
+static uint8_t image[HEADER_LENGTH + 4 * PRG_BLOCK + 4 * CHR_BLOCK];
+static size_t image_length;
+
+/* What the library may write; one byte more than it takes, for lengths too long by one. */
+struct buffers {
+    uint8_t state[BIEKKARUL_STATE_LENGTH + 1];
+    uint8_t prg_ram[BIEKKARUL_RAM_LENGTH + 1];
+    uint8_t chr_ram[BIEKKARUL_RAM_LENGTH + 1];
+};
+
+static struct buffers now, before;
+
+static uint8_t data_at(size_t place) { return (uint8_t)(place * 31 + place / 1024 * 7 + 1); }
+
+static void make_image(unsigned byte6, unsigned prg, unsigned chr) {
+    static const uint8_t magic[4] = {0x4E, 0x45, 0x53, 0x1A};
+    size_t i, data = prg * (size_t)PRG_BLOCK + chr * (size_t)CHR_BLOCK;
+    memset(&now, 0xA5, sizeof now);
+    memset(image, 0, sizeof image);
+    memcpy(image, magic, sizeof magic);
+    image[4] = (uint8_t)prg;
+    image[5] = (uint8_t)chr;
+    image[6] = (uint8_t)byte6;
+    for (i = 0; i < data; i++) image[HEADER_LENGTH + i] = data_at(i);
+    image_length = HEADER_LENGTH + data;
+}
+
+static unsigned load_with(unsigned mode, size_t state_length, size_t prg_length, size_t chr_length) {
+    return biekkarul_load(image, image_length, (uint8_t)mode, now.state, state_length,
+                          now.prg_ram, prg_length, now.chr_ram, chr_length);
+}
+
+static unsigned load(unsigned mode) {
+    return load_with(mode, BIEKKARUL_STATE_LENGTH, BIEKKARUL_RAM_LENGTH, BIEKKARUL_RAM_LENGTH);
+}
+
+static unsigned read_with(size_t state_length, size_t prg_length, size_t chr_length, unsigned address) {
+    return biekkarul_read(now.state, state_length, image, image_length, now.prg_ram, prg_length,
+                          now.chr_ram, chr_length, (uint16_t)address);
+}
+
+static unsigned read_at(unsigned address) {
+    return read_with(BIEKKARUL_STATE_LENGTH, BIEKKARUL_RAM_LENGTH, BIEKKARUL_RAM_LENGTH, address);
+}
+
+static unsigned write_with(size_t state_length, size_t prg_length, size_t chr_length, unsigned address,
+                           unsigned value) {
+    return biekkarul_write(now.state, state_length, image, image_length, now.prg_ram, prg_length,
+                           now.chr_ram, chr_length, (uint16_t)address, (uint8_t)value);
+}
+
+static unsigned write_at(unsigned address, unsigned value) {
+    return write_with(BIEKKARUL_STATE_LENGTH, BIEKKARUL_RAM_LENGTH, BIEKKARUL_RAM_LENGTH, address, value);
+}
+
+static unsigned clock_once(void) { return biekkarul_clock(now.state, BIEKKARUL_STATE_LENGTH); }
+
+static void keep(void) { before = now; }
+
+static void expect_untouched(const char *what) {
+    expect(what, memcmp(&now, &before, sizeof now) != 0, 0);
+}
+
+static void start(unsigned byte6, unsigned prg, unsigned chr, unsigned mode) {
+    make_image(byte6, prg, chr);
+    expect("a good load", load(mode), 0);
+}
+
+/* Digits of the state, as docs/ABI.md lays them out: word, lowest bit, count of bits. */
+
+struct digit {
+    const char *name;
+    unsigned word, bit, bits;
+};
+
+enum digit_name {
+    MODE, NES2, MAPPER, HEADER_MIRRORING, PRG, CHR, MIRRORING, REST0,
+    LENGTH,
+    UXROM_BANK, CNROM_BANK, SERIAL, PRG_MODE1, CHR_MODE1, CHR0, CHR1, PRG1, REST2,
+    R0, R1, R2, R3, R4, R5, R6, R7, REST3,
+    LATCH, COUNTER, SELECT, PRG_MODE3, CHR_MODE3, ENABLED, RELOAD, REST4,
+    DIGITS
+};
+
+static const struct digit digits[DIGITS] = {
+    {"mode", 0, 0, 1}, {"NES 2.0 mark", 0, 1, 1}, {"mapper", 0, 2, 4}, {"header mirroring", 0, 6, 2},
+    {"PRG count", 0, 8, 8}, {"CHR count", 0, 16, 8}, {"current mirroring", 0, 24, 2},
+    {"rest of word 0", 0, 26, 38},
+    {"length", 1, 0, 64},
+    {"UxROM bank", 2, 0, 8}, {"CNROM bank", 2, 8, 2}, {"MMC1 serial", 2, 10, 5},
+    {"MMC1 PRG mode", 2, 15, 2}, {"MMC1 CHR mode", 2, 17, 1}, {"MMC1 CHR 0", 2, 18, 5},
+    {"MMC1 CHR 1", 2, 23, 5}, {"MMC1 PRG", 2, 28, 4}, {"rest of word 2", 2, 32, 32},
+    {"MMC3 R0", 3, 0, 7}, {"MMC3 R1", 3, 7, 7}, {"MMC3 R2", 3, 14, 8}, {"MMC3 R3", 3, 22, 8},
+    {"MMC3 R4", 3, 30, 8}, {"MMC3 R5", 3, 38, 8}, {"MMC3 R6", 3, 46, 6}, {"MMC3 R7", 3, 52, 6},
+    {"rest of word 3", 3, 58, 6},
+    {"MMC3 latch", 4, 0, 8}, {"MMC3 counter", 4, 8, 8}, {"MMC3 select", 4, 16, 3},
+    {"MMC3 PRG mode", 4, 19, 1}, {"MMC3 CHR mode", 4, 20, 1}, {"MMC3 IRQ enabled", 4, 21, 1},
+    {"MMC3 reload mark", 4, 22, 1}, {"rest of word 4", 4, 23, 41},
+};
+
+static uint64_t word_of(const uint8_t *state, unsigned word) {
+    uint64_t value = 0;
+    int i;
+    for (i = 7; i >= 0; i--) value = value * 256 + state[8 * word + (unsigned)i];
+    return value;
+}
+
+static uint64_t mask_of(const struct digit *d) {
+    return d->bits == 64 ? UINT64_MAX : ((uint64_t)1 << d->bits) - 1;
+}
+
+static uint64_t get(const uint8_t *state, enum digit_name name) {
+    const struct digit *d = &digits[name];
+    return word_of(state, d->word) >> d->bit & mask_of(d);
+}
+
+static void set(uint8_t *state, enum digit_name name, uint64_t value) {
+    const struct digit *d = &digits[name];
+    uint64_t word = word_of(state, d->word);
+    unsigned i;
+    word = (word & ~(mask_of(d) << d->bit)) | (value & mask_of(d)) << d->bit;
+    for (i = 0; i < 8; i++) state[8 * d->word + i] = (uint8_t)(word >> (8 * i));
+}
+
+static int power_of_two(uint64_t n) { return n != 0 && (n & (n - 1)) == 0; }
+
+/* Mode, mapper, counts, length and header's mirroring as a load could leave them. */
+static int cart_could_be(const uint8_t *s) {
+    uint64_t mapper = get(s, MAPPER), prg = get(s, PRG), chr = get(s, CHR);
+    if (mapper > MMC3 || get(s, HEADER_MIRRORING) > 1 || prg == 0) return 0;
+    if ((mapper == NROM || mapper == CNROM) && prg > 2) return 0;
+    if (get(s, MODE) == BIEKKARUL_BOARD && !(power_of_two(prg) && (chr == 0 || power_of_two(chr)))) return 0;
+    return get(s, LENGTH) >= HEADER_LENGTH + PRG_BLOCK * prg + CHR_BLOCK * chr;
+}
+
+static int mirroring_could_be(const uint8_t *s) {
+    uint64_t current = get(s, MIRRORING);
+    if (get(s, MODE) == BIEKKARUL_BOARD && get(s, MAPPER) == MMC1) return 1;
+    if (get(s, MODE) == BIEKKARUL_BOARD && get(s, MAPPER) == MMC3) return current <= 1;
+    return current == get(s, HEADER_MIRRORING);
+}
+
+static int board_could_be(const uint8_t *s) {
+    uint8_t used[BIEKKARUL_STATE_LENGTH];
+    memcpy(used, s, sizeof used);
+    if (get(s, MAPPER) == UXROM) set(used, UXROM_BANK, 0);
+    if (get(s, MAPPER) == CNROM) set(used, CNROM_BANK, 0);
+    if (get(s, MAPPER) == MMC1) {
+        int name;
+        if (get(s, SERIAL) == 31) return 0;
+        for (name = SERIAL; name <= PRG1; name++) set(used, (enum digit_name)name, 0);
+    }
+    if (get(s, MAPPER) == MMC3) {
+        int name;
+        for (name = R0; name <= R7; name++) set(used, (enum digit_name)name, 0);
+        for (name = LATCH; name <= RELOAD; name++) set(used, (enum digit_name)name, 0);
+    }
+    /* What is left is not used, or stands above the last digit. */
+    return get(used, REST0) == 0 && word_of(used, 2) == 0 && word_of(used, 3) == 0 && word_of(used, 4) == 0;
+}
+
+static int could_be(const uint8_t *state) {
+    return cart_could_be(state) && mirroring_could_be(state) && board_could_be(state);
+}
+
+/* The state in now, whatever it is: a clock takes exactly the states that could be. */
+static void check_clock(const char *what) {
+    int wanted = could_be(now.state);
+    unsigned answer;
+    keep();
+    answer = clock_once();
+    if (wanted) {
+        expect(what, answer <= 1, 1);
+        expect("a state after a clock", (unsigned)could_be(now.state), 1);
+        if (get(before.state, MAPPER) != MMC3) expect_untouched("a clock of another board");
+    } else {
+        expect(what, answer, REFUSED(BIEKKARUL_STATE_OUT_OF_RANGE));
+        expect_untouched("a refused clock");
+    }
+    now = before;
+}
+
+/* A read and a write take the same states, with the image that was loaded. */
+static void check_read_and_write(const char *what) {
+    int wanted = could_be(now.state) && get(now.state, LENGTH) == image_length;
+    unsigned answer;
+    keep();
+    answer = read_at(0x8000);
+    expect(what, answer != REFUSED(BIEKKARUL_STATE_OUT_OF_RANGE), (unsigned)wanted);
+    expect_untouched("a read");
+    answer = write_at(0x8000, 0x41);
+    expect(what, answer != REFUSED(BIEKKARUL_STATE_OUT_OF_RANGE), (unsigned)wanted);
+    if (wanted) expect("a state after a write", (unsigned)could_be(now.state), 1);
+    else expect_untouched("a refused write");
+    now = before;
+}
+
+static void check_state(const char *what) {
+    check_clock(what);
+    check_read_and_write(what);
+}
+
+/* Every digit at every value it can be written with; long ones at their edges. */
+static void check_digits(void) {
+    struct buffers good = now;
+    int name;
+    for (name = 0; name < DIGITS; name++) {
+        const struct digit *d = &digits[name];
+        unsigned values = d->bits <= 8 ? 1u << d->bits : d->bits, i;
+        for (i = 0; i < values; i++) {
+            set(now.state, (enum digit_name)name, d->bits <= 8 ? i : (uint64_t)1 << i);
+            check_state(d->name);
+            now = good;
+        }
+    }
+    set(now.state, LENGTH, image_length - 1);
+    check_state("a length too short by one");
+    set(now.state, LENGTH, image_length + 1);
+    check_state("a length above the image's");
+    now = good;
+}
+
+static void flip(unsigned bit) { now.state[bit / 8] ^= (uint8_t)(1u << bit % 8); }
+
+/* The clock alone, without the comparison of all buffers, since there are many pairs. */
+static void check_two_bits(void) {
+    uint8_t good[BIEKKARUL_STATE_LENGTH], flipped[BIEKKARUL_STATE_LENGTH];
+    unsigned a, b, bits = 8 * BIEKKARUL_STATE_LENGTH;
+    memcpy(good, now.state, sizeof good);
+    for (a = 0; a < bits; a++) {
+        for (b = a; b < bits; b++) {
+            unsigned answer;
+            flip(a);
+            if (b != a) flip(b);
+            memcpy(flipped, now.state, sizeof flipped);
+            answer = clock_once();
+            expect("one or two bits flipped", answer != REFUSED(BIEKKARUL_STATE_OUT_OF_RANGE),
+                   (unsigned)could_be(flipped));
+            if (BIEKKARUL_IS_REFUSED(answer))
+                expect("a state with bits flipped", memcmp(now.state, flipped, sizeof flipped) != 0, 0);
+            memcpy(now.state, good, sizeof good);
+        }
+    }
+}
+
+static void check_states(void) {
+    static const unsigned chr_counts[MAPPERS] = {0, 2, 0, 4, 4};
+    unsigned mapper, mode;
+    for (mapper = NROM; mapper < MAPPERS; mapper++) {
+        for (mode = BIEKKARUL_HOUSE; mode <= BIEKKARUL_BOARD; mode++) {
+            start(mapper * 16 + 1, 2, chr_counts[mapper], mode);
+            expect("the loaded state could be", (unsigned)could_be(now.state), 1);
+            expect("mode", (unsigned)get(now.state, MODE), mode);
+            expect("mapper", (unsigned)get(now.state, MAPPER), mapper);
+            expect("header mirroring", (unsigned)get(now.state, HEADER_MIRRORING), 1);
+            expect("mirroring", (unsigned)get(now.state, MIRRORING), 1);
+            expect("PRG count", (unsigned)get(now.state, PRG), 2);
+            expect("CHR count", (unsigned)get(now.state, CHR), chr_counts[mapper]);
+            expect("length", (unsigned)get(now.state, LENGTH), (unsigned)image_length);
+            expect("MMC1 PRG mode", (unsigned)get(now.state, PRG_MODE1), mapper == MMC1 ? 3 : 0);
+            check_digits();
+            check_two_bits();
+        }
+    }
+}
+
+/* Lengths of the state and of the RAMs, and where 9 and 10 stand. */
+
+static void check_wrong_lengths(void) {
+    static const size_t states[3] = {0, BIEKKARUL_STATE_LENGTH - 1, BIEKKARUL_STATE_LENGTH + 1};
+    static const size_t rams[3] = {0, BIEKKARUL_RAM_LENGTH - 1, BIEKKARUL_RAM_LENGTH + 1};
+    const size_t state = BIEKKARUL_STATE_LENGTH, ram = BIEKKARUL_RAM_LENGTH;
+    const unsigned nine = REFUSED(BIEKKARUL_RAM_NOT_8K), ten = REFUSED(BIEKKARUL_STATE_OUT_OF_RANGE);
+    unsigned i;
+    start(NROM * 16, 1, 0, BIEKKARUL_HOUSE);
+    keep();
+    for (i = 0; i < 3; i++) {
+        expect("read, state length", read_with(states[i], ram, ram, 0x8000), ten);
+        expect("write, state length", write_with(states[i], ram, ram, 0, 1), ten);
+        expect("clock, state length", biekkarul_clock(now.state, states[i]), ten);
+        expect("load, state length", load_with(BIEKKARUL_HOUSE, states[i], ram, ram), ten);
+        expect("read, PRG RAM length", read_with(state, rams[i], ram, 0x8000), nine);
+        expect("read, CHR RAM length", read_with(state, ram, rams[i], 0x8000), nine);
+        expect("write, PRG RAM length", write_with(state, rams[i], ram, 0, 1), nine);
+        expect("write, CHR RAM length", write_with(state, ram, rams[i], 0, 1), nine);
+        expect("load, PRG RAM length", load_with(BIEKKARUL_HOUSE, state, rams[i], ram), nine);
+        expect("load, CHR RAM length", load_with(BIEKKARUL_HOUSE, state, ram, rams[i]), nine);
+        expect("read, 9 before 10", read_with(states[i], rams[i], ram, 0x8000), nine);
+        expect("write, 9 before 10", write_with(states[i], ram, rams[i], 0, 1), nine);
+        expect("load, 9 before 10", load_with(2, states[i], rams[i], ram), nine);
+    }
+    expect_untouched("refused lengths");
+    expect("the board is still served", read_at(0x8000), data_at(0));
+}
+
+static void check_load_order(void) {
+    const size_t state = BIEKKARUL_STATE_LENGTH, ram = BIEKKARUL_RAM_LENGTH;
+    const unsigned ten = REFUSED(BIEKKARUL_STATE_OUT_OF_RANGE);
+    make_image(0x5C, 3, 0);
+    image[0] = 0;
+    image_length = HEADER_LENGTH + PRG_BLOCK;
+    keep();
+    expect("load, 9 first", load_with(2, 0, ram, ram + 1), REFUSED(BIEKKARUL_RAM_NOT_8K));
+    expect("load, length 39 before 3", load_with(BIEKKARUL_BOARD, state - 1, ram, ram), ten);
+    expect("load, mode 2 before 3", load_with(2, state, ram, ram), ten);
+    expect("load, mode 255 before 3", load_with(255, state, ram, ram), ten);
+    expect("load, 3", load(BIEKKARUL_BOARD), REFUSED(BIEKKARUL_IMAGE_NOT_INES));
+    image[0] = 0x4E;
+    expect("load, 4 before 5", load(BIEKKARUL_BOARD), REFUSED(BIEKKARUL_MAPPER_NOT_TAKEN));
+    image[6] = 0x0C;
+    expect("load, 5 before 6", load(BIEKKARUL_BOARD), REFUSED(BIEKKARUL_TRAINER_OR_FOUR_SCREEN));
+    image[6] = 0x00;
+    expect("load, 6 before 7", load(BIEKKARUL_BOARD), REFUSED(BIEKKARUL_PRG_COUNT_NOT_TAKEN));
+    image[6] = 0x20;
+    expect("load, 7 before 8", load(BIEKKARUL_BOARD), REFUSED(BIEKKARUL_IMAGE_TOO_SHORT));
+    image_length = HEADER_LENGTH + 3 * PRG_BLOCK;
+    expect("load, 8", load(BIEKKARUL_BOARD), REFUSED(BIEKKARUL_COUNT_NO_POWER_OF_TWO));
+    expect_untouched("refused loads");
+    expect("load, house mode takes three blocks", load(BIEKKARUL_HOUSE), 0);
+}
+
+static void check_load_clears(void) {
+    size_t i;
+    unsigned sum = 0;
+    start(MMC1 * 16, 2, 1, BIEKKARUL_HOUSE);
+    for (i = 0; i < BIEKKARUL_RAM_LENGTH; i++) sum += now.prg_ram[i] + now.chr_ram[i];
+    expect("both RAMs are cleared", sum, 0);
+    expect("nothing past the state", now.state[BIEKKARUL_STATE_LENGTH], 0xA5);
+    expect("nothing past PRG RAM", now.prg_ram[BIEKKARUL_RAM_LENGTH], 0xA5);
+    expect("nothing past CHR RAM", now.chr_ram[BIEKKARUL_RAM_LENGTH], 0xA5);
+}
+
+static void check_header(void) {
+    uint8_t bytes[16] = {0x4E, 0x45, 0x53, 0x1A, 4, 5, 6, 7, 8, 9, 10, 11, 12, 13, 14, 15};
+    uint8_t fields[13], old[13];
+    const unsigned ten = REFUSED(BIEKKARUL_STATE_OUT_OF_RANGE);
+    unsigned i;
+    memset(fields, 0xA5, sizeof fields);
+    memcpy(old, fields, sizeof old);
+    expect("header, 13 fields", biekkarul_header(bytes, 16, fields, 13), ten);
+    expect("header, 11 fields", biekkarul_header(bytes, 16, fields, 11), ten);
+    expect("header, no field, before 1", biekkarul_header(bytes, 0, fields, 0), ten);
+    expect("header, 15 bytes", biekkarul_header(bytes, 15, fields, 12), REFUSED(BIEKKARUL_HEADER_TOO_SHORT));
+    expect("header, no byte", biekkarul_header(bytes, 0, fields, 12), REFUSED(BIEKKARUL_HEADER_TOO_SHORT));
+    for (i = 0; i < 4; i++) {
+        bytes[i] ^= 1;
+        expect("header, magic", biekkarul_header(bytes, 16, fields, 12), REFUSED(BIEKKARUL_HEADER_NOT_INES));
+        expect("header, 1 before 2", biekkarul_header(bytes, 15, fields, 12),
+               REFUSED(BIEKKARUL_HEADER_TOO_SHORT));
+        bytes[i] ^= 1;
+    }
+    expect("header, fields untouched", memcmp(fields, old, sizeof fields) != 0, 0);
+    expect("header", biekkarul_header(bytes, 16, fields, 12), 0);
+    for (i = 0; i < 12; i++) expect("header, field", fields[i], i + 4);
+    expect("header, nothing past the fields", fields[12], 0xA5);
+}
+
+/* Document 01's P lines. */
+
+static void check_p1_to_p6(void) {
+    make_image(0x00, 1, 0);
+    image_length = 16399;
+    expect("P1", load(BIEKKARUL_HOUSE), REFUSED(3));
+    image_length = 16400;
+    expect("P2", load(BIEKKARUL_HOUSE), 0);
+    image[6] = 0x54;
+    expect("P3", load(BIEKKARUL_HOUSE), REFUSED(4));
+    image[6] = 0x08;
+    expect("P4", load(BIEKKARUL_HOUSE), REFUSED(5));
+    image[6] = 0x00;
+    image[4] = 3;
+    expect("P5", load(BIEKKARUL_HOUSE), REFUSED(6));
+    make_image(UXROM * 16, 2, 0);
+    image_length = 32783;
+    expect("P6, one byte short", load(BIEKKARUL_HOUSE), REFUSED(7));
+    image_length = 32784;
+    expect("P6", load(BIEKKARUL_HOUSE), 0);
+}
+
+static void check_p7_and_p8(void) {
+    static const unsigned control[5] = {1, 1, 0, 0, 1};
+    unsigned i;
+    start(MMC1 * 16 + 1, 2, 1, BIEKKARUL_HOUSE);
+    for (i = 0; i < 4; i++) expect("P7, quiet", write_at(0x8000, control[i]), 0);
+    expect("P7, notice", write_at(0x8000, control[4]), BIEKKARUL_HORIZONTAL);
+    expect("P7, PRG mode", (unsigned)get(now.state, PRG_MODE1), 0);
+    expect("P7, CHR mode", (unsigned)get(now.state, CHR_MODE1), 1);
+    expect("P7, house keeps the header's mirroring", (unsigned)get(now.state, MIRRORING), 1);
+    for (i = 0; i < 5; i++) write_at(0xE000, i == 0);
+    expect("P8, PRG 1 before", (unsigned)get(now.state, PRG1), 1);
+    for (i = 0; i < 4; i++) expect("P8, four bits", write_at(0xE000, 1), 0);
+    expect("P8, serial of four bits", (unsigned)get(now.state, SERIAL), 15 + 15);
+    expect("P8, reset", write_at(0xE000, 0x80), 0);
+    expect("P8, serial after the reset", (unsigned)get(now.state, SERIAL), 0);
+    for (i = 0; i < 4; i++) write_at(0xE000, 0);
+    expect("P8, no load yet", (unsigned)get(now.state, PRG1), 1);
+    write_at(0xE000, 0);
+    expect("P8, PRG 0", (unsigned)get(now.state, PRG1), 0);
+}
+
+/* Bit k - 1 of the answer is clock k's. */
+static unsigned clocks(unsigned latch, unsigned count, unsigned mode) {
+    unsigned k, yes = 0;
+    start(MMC3 * 16, 1, 1, mode);
+    expect("latch", write_at(0xC000, latch), 0);
+    expect("reload", write_at(0xC001, 0), 0);
+    expect("enable", write_at(0xE001, 0), 0);
+    for (k = 0; k < count; k++) yes |= clock_once() << k;
+    return yes;
+}
+
+static void check_p9_to_p12(void) {
+    expect("P9", clocks(0, 3, BIEKKARUL_HOUSE), 0x6);
+    expect("P9, board", clocks(0, 3, BIEKKARUL_BOARD), 0x7);
+    expect("P10", clocks(2, 7, BIEKKARUL_HOUSE), 0x48);
+    expect("P10, board", clocks(2, 7, BIEKKARUL_BOARD), 0x24);
+    start(UXROM * 16, 2, 0, BIEKKARUL_HOUSE);
+    write_at(0x8000, 2);
+    expect("P11", read_at(0x8000), REFUSED(11));
+    start(UXROM * 16, 2, 0, BIEKKARUL_BOARD);
+    write_at(0x8000, 2);
+    expect("P11, board", read_at(0x8000), data_at(0));
+    start(CNROM * 16, 1, 1, BIEKKARUL_HOUSE);
+    expect("P12", read_at(0xBFFF), REFUSED(13));
+    start(CNROM * 16, 1, 1, BIEKKARUL_BOARD);
+    expect("P12, board", read_at(0xBFFF), data_at(16383));
+}
+
+static void check_house_refusals(void) {
+    start(NROM * 16, 1, 1, BIEKKARUL_HOUSE);
+    keep();
+    expect("12", write_at(0x1FFF, 1), REFUSED(BIEKKARUL_NO_CHR_RAM));
+    expect_untouched("12");
+    start(CNROM * 16, 2, 1, BIEKKARUL_HOUSE);
+    keep();
+    expect("13, read", read_at(0x2000), REFUSED(BIEKKARUL_NO_SUCH_PLACE));
+    expect("13, write", write_at(0x7FFF, 1), REFUSED(BIEKKARUL_NO_SUCH_PLACE));
+    expect_untouched("13");
+    start(MMC3 * 16, 1, 1, BIEKKARUL_HOUSE);
+    expect("enable", write_at(0xE001, 0), 0);
+    keep();
+    expect("14", write_at(0xE000, 0), REFUSED(BIEKKARUL_IRQ_PENDING));
+    expect_untouched("14");
+    expect("write PRG RAM", write_at(0x6001, 0x5A), 0);
+    expect("PRG RAM", now.prg_ram[1], 0x5A);
+    expect("read PRG RAM", read_at(0x6001), 0x5A);
+}
+
+static void check_notices(void) {
+    static const unsigned letters[4] = {BIEKKARUL_LOWER, BIEKKARUL_UPPER, BIEKKARUL_VERTICAL,
+                                        BIEKKARUL_HORIZONTAL};
+    unsigned control, bit;
+    start(MMC1 * 16, 2, 1, BIEKKARUL_BOARD);
+    for (control = 0; control < 4; control++) {
+        for (bit = 0; bit < 4; bit++) expect("quiet", write_at(0x8000, control >> bit & 1), 0);
+        expect("notice", write_at(0x8000, 0), letters[control]);
+    }
+}
+
+int main(void) {
+    check_header();
+    check_load_clears();
+    check_load_order();
+    check_wrong_lengths();
+    check_p1_to_p6();
+    check_p7_and_p8();
+    check_p9_to_p12();
+    check_house_refusals();
+    check_notices();
+    check_states();
+    printf("calls: %lu checks, %lu failed\n", checks, failures);
+    return failures != 0;
+}
