@@ -10,14 +10,31 @@ use crate::tally::{Board, Tally};
 /// Where the two sides part.
 #[derive(Clone, Debug, PartialEq, Eq)]
 pub struct Mismatch {
+    pub fault: Fault,
     /// The event's number in its history; none for a load, a header, or the end of a history.
     pub event: Option<usize>,
     pub what: String,
 }
 
-impl Mismatch {
-    pub fn outside(what: impl Into<String>) -> Mismatch {
-        Mismatch { event: None, what: what.into() }
+/// The kind of a mismatch. A case is made smaller only as long as it fails in the same kind.
+#[derive(Clone, Copy, Debug, PartialEq, Eq)]
+pub enum Fault {
+    Header,
+    Load,
+    /// Two answers that are not the same.
+    Answer,
+    /// One side refuses and the other serves.
+    Refusal,
+    /// A refusal with another number than the paper's.
+    Number,
+    State,
+    Ram,
+}
+
+impl Fault {
+    /// A mismatch of this kind that belongs to no event.
+    pub fn found(self, what: impl Into<String>) -> Mismatch {
+        Mismatch { fault: self, event: None, what: what.into() }
     }
 }
 
@@ -67,24 +84,25 @@ impl Pair {
         board.histories += 1;
         let mut played = events.len();
         for (number, event) in events.iter().enumerate() {
-            if self.step(image, &mut original, event, board).map_err(|what| at(number, what))? {
+            let step = self.step(image, &mut original, event, board);
+            if step.map_err(|mismatch| Mismatch { event: Some(number), ..mismatch })? {
                 played = number + 1;
                 break;
             }
         }
-        self.check_rams("at the end of the history").map_err(Mismatch::outside)?;
+        self.check_rams("at the end of the history")?;
         Ok(played)
     }
 
     fn load(&mut self, image: &Image) -> Result<Original, Mismatch> {
         let answer = self.ours.load(&image.bytes);
         if answer != 0 {
-            return Err(Mismatch::outside(format!("the load of a valid image answers {answer}")));
+            return Err(Fault::Load.found(format!("the load of a valid image answers {answer}")));
         }
         let original = Original::load(&image.bytes)
-            .map_err(|error| Mismatch::outside(format!("the original does not load a valid image: {error:?}")))?;
+            .map_err(|error| Fault::Load.found(format!("the original does not load a valid image: {error:?}")))?;
         self.shadow.clear();
-        self.check_rams("after the load").map_err(Mismatch::outside)?;
+        self.check_rams("after the load")?;
         Ok(original)
     }
 
@@ -96,7 +114,7 @@ impl Pair {
         original: &mut Original,
         event: &Event,
         board: &mut Board,
-    ) -> Result<bool, String> {
+    ) -> Result<bool, Mismatch> {
         let before = self.ours.state;
         let (ours, theirs) = (self.ours.call(event), original.call(event));
         board.count(event.kind, ours);
@@ -107,7 +125,7 @@ impl Pair {
         }
         match event.kind {
             Kind::Write => self.shadow.store(image.mapper(), image.chr() == 0, event.address, event.value),
-            Kind::Read if self.ours.state != before => return Err("a read changed the state".into()),
+            Kind::Read if self.ours.state != before => return Err(Fault::State.found("a read changed the state")),
             _ => {}
         }
         Ok(false)
@@ -122,23 +140,24 @@ impl Pair {
         ours: Answer,
         theirs: Answer,
         before: &[u8; STATE],
-    ) -> Result<(), String> {
+    ) -> Result<(), Mismatch> {
         if theirs != PANICKED || ours < REFUSED {
+            let fault = if theirs != PANICKED && ours < REFUSED { Fault::Answer } else { Fault::Refusal };
             let (ours, theirs) = (describe(event.kind, ours), describe(event.kind, theirs));
-            return Err(format!("ours: {ours}, the original: {theirs}"));
+            return Err(fault.found(format!("ours: {ours}, the original: {theirs}")));
         }
         let expected = refusal(mapper, event);
         if ours != REFUSED + expected {
             let ours = describe(event.kind, ours);
-            return Err(format!("both refuse; ours: {ours}, by the paper: refusal {expected}"));
+            return Err(Fault::Number.found(format!("both refuse; ours: {ours}, by the paper: refusal {expected}")));
         }
         if self.ours.state != *before {
-            return Err(format!("after refusal {expected} the state is not as before"));
+            return Err(Fault::State.found(format!("after refusal {expected} the state is not as before")));
         }
         self.check_rams("after a refusal")
     }
 
-    fn check_rams(&self, when: &str) -> Result<(), String> {
+    fn check_rams(&self, when: &str) -> Result<(), Mismatch> {
         for (name, held, wanted) in [
             ("PRG RAM", &self.ours.prg_ram, &self.shadow.prg_ram),
             ("CHR RAM", &self.ours.chr_ram, &self.shadow.chr_ram),
@@ -146,15 +165,12 @@ impl Pair {
             if held != wanted {
                 let place = (0..RAM).find(|&place| held[place] != wanted[place]).unwrap_or(0);
                 let (held, wanted) = (held[place], wanted[place]);
-                return Err(format!("{name} {when} holds {held:02X} at {place:04X} instead of {wanted:02X}"));
+                let what = format!("{name} {when} holds {held:02X} at {place:04X} instead of {wanted:02X}");
+                return Err(Fault::Ram.found(what));
             }
         }
         Ok(())
     }
-}
-
-fn at(event: usize, what: String) -> Mismatch {
-    Mismatch { event: Some(event), what }
 }
 
 /// The number that the paper gives to a refused call, by board and place. 0 for a call that is never refused.

@@ -40,7 +40,7 @@ impl Base {
         let (prg, chr) = match mapper {
             0 => (2, 0),
             1 => (16, if random.once_in(4) { 0 } else { 16 }),
-            2 => (128, 0),
+            2 => (255, 0),
             3 => (random.pick(&[1, 2]), 4),
             _ => (32, 32),
         };

@@ -11,6 +11,7 @@ pub mod loads;
 pub mod original;
 pub mod ours;
 pub mod random;
+pub mod recording;
 pub mod report;
 pub mod restore;
 pub mod run;

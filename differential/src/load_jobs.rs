@@ -22,6 +22,16 @@ pub fn jobs() -> Vec<Job> {
     ]
 }
 
+/// A few of them, for tests of the harness itself.
+pub fn quick_jobs() -> Vec<Job> {
+    vec![
+        Box::new(damaged_magic),
+        Box::new(short_headers),
+        Box::new(every_header_byte),
+        Box::new(|worker| counts(worker, 0..=3, &[0, 1, 255])),
+    ]
+}
+
 /// One long stretch of bytes under one header after another, with no copy in between.
 struct Stretch {
     bytes: Bytes,

@@ -1,6 +1,6 @@
 //! Loads and headers of every kind of image, most of them refused.
 
-use crate::compare::Mismatch;
+use crate::compare::{Fault, Mismatch};
 use crate::events::{Answer, REFUSED};
 use crate::images::{self, Bytes, Image, HEADER, MAGIC, PRG_BLOCK};
 use crate::original::{self, Facts, NoBoard, Original};
@@ -60,10 +60,10 @@ pub fn compare_load(bytes: &Bytes, sabotage: Sabotage, tally: &mut Tally) -> Res
     tally.count_load(answer);
     let expected = by_the_paper(bytes.get());
     if answer != expected {
-        return Err(Mismatch::outside(format!("the load answers {answer}, by the paper {expected}")));
+        return Err(Fault::Load.found(format!("the load answers {answer}, by the paper {expected}")));
     }
     if answer == 0 { check_accepted(bytes, &ours) } else { check_refused(bytes, answer - REFUSED, &ours) }
-        .map_err(Mismatch::outside)
+        .map_err(|what| Fault::Load.found(what))
 }
 
 fn check_accepted(bytes: &Bytes, ours: &Ours) -> Result<(), String> {
@@ -130,12 +130,12 @@ fn panics_at_reads(image: &[u8], board: &Original) -> Result<(), String> {
 /// The header reader on both sides.
 pub fn compare_header(image: &[u8], sabotage: Sabotage, tally: &mut Tally) -> Result<(), Mismatch> {
     tally.headers += 1;
-    let (ours, theirs) = (ours::header(image, sabotage), original::header(image));
+    let (ours, theirs) = (ours::header(image, sabotage), original::read_header(image));
     let ours = ours.map(|fields| (header_text(&fields), data_size(&fields)));
     if ours == theirs {
         return Ok(());
     }
-    Err(Mismatch::outside(format!("the header reader; ours: {ours:?}, the original: {theirs:?}")))
+    Err(Fault::Header.found(format!("the header reader; ours: {ours:?}, the original: {theirs:?}")))
 }
 
 /// Bytes 4 to 15 as the debug text of the original's header shows them.
@@ -149,7 +149,7 @@ fn data_size(fields: &[u8; 12]) -> usize {
     usize::from(fields[0]) * 16_384 + usize::from(fields[1]) * 8_192
 }
 
-/// One image, its header first. The failing image is given back for the report.
+/// One image: the header reader, then the load.
 pub fn compare_image(image: &Image, sabotage: Sabotage, tally: &mut Tally) -> Result<(), Mismatch> {
     compare_header(image.bytes.get(), sabotage, tally)?;
     compare_load(&image.bytes, sabotage, tally)

@@ -9,7 +9,7 @@ use nes::cartridge::{Cartridge, Header, MapperType, Mirroring, Rom};
 use nes::mappers::Mapper;
 
 use crate::events::{Answer, Event, Kind, PANICKED};
-use crate::images::Bytes;
+use crate::images::{header, Bytes, Fill, Image};
 
 /// The image, lent to the original through its own trait.
 pub struct SharedRom(Bytes);
@@ -50,6 +50,13 @@ pub struct Original {
 /// Panics are expected here by the million; without this each would print a message.
 pub fn silence_panics() {
     panic::set_hook(Box::new(|_| {}));
+}
+
+/// Whether the original was built with overflow checks. Without PRG, UxROM's read of a place that is not mapped only
+/// panics because it works out the number of the last bank.
+pub fn has_overflow_checks() -> bool {
+    let without_prg = Image::new(header(2, 0, 0, 0), 16_400, Fill::Zero);
+    Original::load(&without_prg.bytes).is_ok_and(|board| board.read(0x4000) == PANICKED)
 }
 
 fn caught<T>(call: impl FnOnce() -> T) -> Option<T> {
@@ -128,7 +135,7 @@ pub fn facts(image: &Bytes) -> Option<Facts> {
 
 /// The original's header reader: bytes 4 to 15 and the size of the data, or the number of the refusal that stands for
 /// its error.
-pub fn header(image: &[u8]) -> Result<(String, usize), Answer> {
+pub fn read_header(image: &[u8]) -> Result<(String, usize), Answer> {
     match Header::parse(image) {
         // The fields are private; the debug text shows them all.
         Ok(header) => Ok((format!("{header:?}"), header.total_size_excluding_header())),

@@ -19,7 +19,7 @@ pub fn shrunk(failure: &Failure, sabotage: Sabotage) -> Failure {
     let mut tries = 0;
     let mut fails = |case: &Case| {
         tries += 1;
-        tries < TRIES && check(case, sabotage).is_some()
+        tries < TRIES && check(case, sabotage).is_some_and(|mismatch| mismatch.fault == failure.mismatch.fault)
     };
     if !fails(&failure.case) {
         return failure.clone();

@@ -186,7 +186,7 @@ pub enum Plan {
     Gate,
     /// The exhaustive parts in full, then random rounds of this seed for the rest of this many minutes.
     Minutes { minutes: f64, seed: u64 },
-    /// A few random rounds and the loads: for tests of the harness itself.
+    /// A few loads and random rounds: for tests of the harness itself.
     Short,
 }
 
@@ -216,7 +216,7 @@ pub fn run(plan: Plan, threads: usize, sabotage: Sabotage, progress: bool) -> Su
     let jobs = match plan {
         Plan::Gate => exhaustive_jobs(Depth::Gate),
         Plan::Minutes { .. } => exhaustive_jobs(Depth::Full),
-        Plan::Short => load_jobs::jobs(),
+        Plan::Short => load_jobs::quick_jobs(),
     };
     let shared = Shared {
         jobs,

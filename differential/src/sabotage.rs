@@ -53,7 +53,9 @@ impl Sabotage {
     pub fn read(self, answer: Answer, address: u16, state: &[u8; STATE]) -> Answer {
         let mapper = state[0] >> 2 & 15;
         match self {
-            Sabotage::ReadByte if mapper == 4 && address & 0xe000 == 0xa000 && r7(state) >= 3 => answer ^ 1,
+            Sabotage::ReadByte if mapper == 4 && address & 0xe000 == 0xa000 && r7(state) >= 3 => {
+                answer ^ (answer < REFUSED) as Answer
+            }
             Sabotage::PastEnd if answer == REFUSED + 11 => 0,
             Sabotage::Refuses if mapper == 2 && address == 0xffff => REFUSED + 11,
             Sabotage::OtherNumber if answer == REFUSED + 13 => REFUSED + 11,

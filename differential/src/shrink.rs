@@ -1,5 +1,4 @@
-//! Makes a failing case small: fewer events, a smaller image, plainer bytes. Whatever still fails is kept, whether or
-//! not it fails in the same way.
+//! Makes a failing case small: fewer events, a smaller image, plainer bytes. Whatever still fails is kept.
 
 use crate::events::{Event, Kind};
 use crate::images::{header, Fill, Image};

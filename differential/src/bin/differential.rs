@@ -39,6 +39,10 @@ fn main() -> ExitCode {
         }
     };
     original::silence_panics();
+    if !original::has_overflow_checks() {
+        eprintln!("differential: the original is built without overflow checks; build with --release");
+        return ExitCode::from(2);
+    }
     let by_hand = matches!(options.plan, Plan::Minutes { .. });
     let summary = run(options.plan, options.threads, options.sabotage, by_hand);
     conclude(&options, &summary)
