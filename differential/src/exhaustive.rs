@@ -24,7 +24,8 @@ impl Base {
     pub fn new(image: Image, events: &[Event]) -> Base {
         let mut ours = Ours::new(Sabotage::None);
         ours.load(&image.bytes);
-        let served = |event: &&Event| event.kind != Kind::Read && ours.call(event) < REFUSED;
+        let can_change = |kind| kind == Kind::Write || kind == Kind::Clock && image.mapper() == 4;
+        let served = |event: &&Event| can_change(event.kind) && ours.call(event) < REFUSED;
         let prelude = events.iter().filter(served).copied().collect();
         Base { image, prelude, state: ours.state }
     }
@@ -35,15 +36,17 @@ impl Base {
         Base::reached(random, image)
     }
 
-    /// Any state on an image whose banks are nearly all there, so that few probes are refused.
-    pub fn random_roomy(random: &mut Random, mapper: u8) -> Base {
+    /// Any state on an image whose banks are nearly all there, so that few probes are refused; with CHR ROM or RAM.
+    pub fn random_roomy(random: &mut Random, mapper: u8, chr_rom: bool) -> Base {
         let (prg, chr) = match mapper {
-            0 => (2, 0),
-            1 => (16, if random.once_in(4) { 0 } else { 16 }),
-            2 => (255, 0),
+            0 => (random.pick(&[1, 2]), 1),
+            1 => (16, 16),
+            2 => (255, 1),
             3 => (random.pick(&[1, 2]), 4),
             _ => (32, 32),
         };
+        // Behind the banks of CNROM and MMC3, CHR RAM would be past its end nearly everywhere.
+        let chr = if chr_rom || mapper >= 3 { chr } else { 0 };
         let image = Image::exact(header(mapper, prg, chr, random.byte() & 3), Fill::Random(random.next()));
         Base::reached(random, image)
     }
@@ -255,7 +258,7 @@ mod tests {
         for round in 0..200 {
             let mut random = Random::new(7, round);
             for mapper in 0..5 {
-                let base = Base::random_roomy(&mut random, mapper);
+                let base = Base::random_roomy(&mut random, mapper, round % 2 == 0);
                 for address in (0..=0xffff).step_by(0x0fff) {
                     check_restore(&base, address, random.byte());
                 }

@@ -4,6 +4,7 @@
 use crate::events::{clock, read, write, Event};
 use crate::images::Image;
 use crate::random::Random;
+use crate::restore;
 
 /// The last address of every window of any board, and the first of the next.
 pub const EDGES: [u16; 34] = [
@@ -25,6 +26,23 @@ pub fn compose(random: &mut Random, image: &Image, length: usize, events: &mut V
     let mut composer = Composer { random, events, image, mapper: image.mapper() };
     while composer.events.len() < length {
         composer.phrase();
+    }
+}
+
+/// Ends a history with reads of every byte of RAM that its board lets anyone read.
+pub fn read_back(image: &Image, events: &mut Vec<Event>) {
+    let mapper = image.mapper();
+    if mapper == 1 {
+        // 8 KB mode and bank 0: CHR RAM shows whole.
+        events.push(write(0x8000, 0x80));
+        restore::mmc1_load(0x8000, 0x0c, events);
+        restore::mmc1_load(0xa000, 0, events);
+    }
+    if mapper <= 2 && image.chr() == 0 {
+        events.extend((0x0000..0x2000).map(read));
+    }
+    if mapper == 1 || mapper == 4 {
+        events.extend((0x6000..0x8000).map(read));
     }
 }
 

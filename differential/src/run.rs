@@ -75,6 +75,14 @@ const GATE_SEED: u64 = 4;
 const GATE_ROUNDS: u64 = 24_000;
 const HISTORIES_PER_IMAGE: usize = 8;
 
+/// How many rounds a plan has that no clock ends.
+fn fixed_rounds(plan: Plan) -> u64 {
+    match plan {
+        Plan::Short => 400,
+        _ => GATE_ROUNDS,
+    }
+}
+
 /// One round of random histories: an image, and some histories on it.
 fn random_round(worker: &mut Worker, seed: u64, round: u64) -> Outcome {
     let mut random = Random::new(seed, round);
@@ -84,6 +92,9 @@ fn random_round(worker: &mut Worker, seed: u64, round: u64) -> Outcome {
     for _ in 0..HISTORIES_PER_IMAGE {
         let length = 20 + random.below(500);
         histories::compose(&mut random, &image, length, &mut worker.events);
+        if random.once_in(40) {
+            histories::read_back(&image, &mut worker.events);
+        }
         worker.play_events(&image)?;
     }
     Ok(())
@@ -94,7 +105,8 @@ fn long_round(worker: &mut Worker, seed: u64, round: u64) -> Outcome {
     let mut random = Random::new(!seed, round);
     match round % 4_096 {
         0 | 2_048 => {
-            let base = Base::random_roomy(&mut random, MAPPERS[(round / 2_048 % 5) as usize]);
+            let chr_rom = random.once_in(2);
+            let base = Base::random_roomy(&mut random, MAPPERS[(round / 2_048 % 5) as usize], chr_rom);
             let from = 0x1000 * random.below(16) as u32;
             exhaustive::every_write(worker, &base, from..from + 0x1000, Depth::Full)
         }
@@ -107,7 +119,7 @@ fn long_round(worker: &mut Worker, seed: u64, round: u64) -> Outcome {
     }
 }
 
-/// The fixed jobs: all exhaustive parts. They come first in every run.
+/// The fixed jobs: all exhaustive parts.
 fn exhaustive_jobs(depth: Depth) -> Vec<Job> {
     let mut jobs: Vec<Job> = load_jobs::jobs();
     jobs.extend(write_jobs(depth));
@@ -116,15 +128,17 @@ fn exhaustive_jobs(depth: Depth) -> Vec<Job> {
     jobs
 }
 
-/// Every address and every byte, from a few states of each board, in blocks of addresses.
+/// Every address and every byte, from a few states of each board, in blocks of addresses. The boards take turns, so
+/// that a run that ends early has been on all of them.
 fn write_jobs(depth: Depth) -> Vec<Job> {
     let states = if depth == Depth::Full { 8 } else { 2 };
     let mut jobs: Vec<Job> = Vec::new();
-    for (mapper, state) in MAPPERS.into_iter().flat_map(|mapper| (0..states).map(move |state| (mapper, state))) {
-        let mut random = Random::new(GATE_SEED, 1_000 + 100 * u64::from(mapper) + state);
-        let base = Base::random_roomy(&mut random, mapper);
-        for block in 0..32 {
-            let base = base.clone();
+    for state in 0..states {
+        let bases = MAPPERS.map(|mapper| {
+            let mut random = Random::new(GATE_SEED, 1_000 + 100 * u64::from(mapper) + state);
+            Base::random_roomy(&mut random, mapper, state % 2 == 1)
+        });
+        for (block, base) in (0..32).flat_map(|block| bases.iter().map(move |base| (block, base.clone()))) {
             let addresses: Range<u32> = block * 0x800..(block + 1) * 0x800;
             jobs.push(Box::new(move |worker| exhaustive::every_write(worker, &base, addresses.clone(), depth)));
         }
@@ -138,10 +152,10 @@ fn read_jobs() -> Vec<Job> {
     for (mapper, state) in MAPPERS.into_iter().flat_map(|mapper| (0..24).map(move |state| (mapper, state))) {
         jobs.push(Box::new(move |worker| {
             let mut random = Random::new(GATE_SEED, 2_000 + 100 * u64::from(mapper) + state);
-            let base = if state % 2 == 0 {
-                Base::random(&mut random, mapper)
-            } else {
-                Base::random_roomy(&mut random, mapper)
+            let base = match state % 4 {
+                0 => Base::random_roomy(&mut random, mapper, false),
+                1 => Base::random_roomy(&mut random, mapper, true),
+                _ => Base::random(&mut random, mapper),
             };
             exhaustive::every_read(worker, &base)
         }));
@@ -184,7 +198,7 @@ fn register_jobs() -> Vec<Job> {
 pub enum Plan {
     /// The gate's: fixed seeds, the same calls every time.
     Gate,
-    /// The exhaustive parts in full, then random rounds of this seed for the rest of this many minutes.
+    /// The exhaustive parts in full and random rounds of this seed, by turns, for this many minutes.
     Minutes { minutes: f64, seed: u64 },
     /// A few loads and random rounds: for tests of the harness itself.
     Short,
@@ -200,6 +214,7 @@ pub struct Summary {
 
 struct Shared {
     jobs: Vec<Job>,
+    next_turn: AtomicU64,
     next_job: AtomicUsize,
     next_round: AtomicU64,
     calls: AtomicU64,
@@ -220,6 +235,7 @@ pub fn run(plan: Plan, threads: usize, sabotage: Sabotage, progress: bool) -> Su
     };
     let shared = Shared {
         jobs,
+        next_turn: AtomicU64::new(0),
         next_job: AtomicUsize::new(0),
         next_round: AtomicU64::new(0),
         calls: AtomicU64::new(0),
@@ -240,7 +256,8 @@ pub fn run(plan: Plan, threads: usize, sabotage: Sabotage, progress: bool) -> Su
     if progress {
         eprintln!();
     }
-    let rounds = shared.next_round.load(Ordering::Relaxed);
+    let taken = shared.next_round.load(Ordering::Relaxed);
+    let rounds = if let Plan::Minutes { .. } = plan { taken } else { taken.min(fixed_rounds(plan)) };
     Summary {
         tally: shared.tally.into_inner().expect("no worker panics while it holds the tally"),
         rounds,
@@ -280,21 +297,22 @@ fn work(shared: &Shared) {
 
 /// The next piece of work, done; none when the run is at its end.
 fn next(shared: &Shared, worker: &mut Worker) -> Option<Outcome> {
-    let minutes_are_over = match shared.plan {
-        Plan::Minutes { minutes, .. } => shared.started.elapsed().as_secs_f64() > 60.0 * minutes,
-        _ => false,
+    let turn = shared.next_turn.fetch_add(1, Ordering::Relaxed);
+    let job_is_next = match shared.plan {
+        Plan::Minutes { minutes, .. } if shared.started.elapsed().as_secs_f64() > 60.0 * minutes => return None,
+        // Jobs and rounds take turns, so that a run that ends early has had some of everything.
+        Plan::Minutes { .. } => turn % 64 == 0,
+        _ => true,
     };
-    if minutes_are_over {
-        return None;
-    }
-    let job = shared.next_job.fetch_add(1, Ordering::Relaxed);
-    if let Some(job) = shared.jobs.get(job) {
-        return Some(job(worker));
+    if job_is_next {
+        let job = shared.next_job.fetch_add(1, Ordering::Relaxed);
+        if let Some(job) = shared.jobs.get(job) {
+            return Some(job(worker));
+        }
     }
     let round = shared.next_round.fetch_add(1, Ordering::Relaxed);
     match shared.plan {
-        Plan::Gate => (round < GATE_ROUNDS).then(|| random_round(worker, GATE_SEED, round)),
-        Plan::Short => (round < 400).then(|| random_round(worker, GATE_SEED, round)),
         Plan::Minutes { seed, .. } => Some(long_round(worker, seed, round)),
+        plan => (round < fixed_rounds(plan)).then(|| random_round(worker, GATE_SEED, round)),
     }
 }

@@ -14,7 +14,7 @@ const HELP: &str = "\
 differential: plays the same calls on the exported library (house mode) and on the original Rust, and compares
 
   differential                        the gate's run: fixed seeds, the same calls every time
-  differential --minutes N [--seed S] every exhaustive part in full, then random histories; N may have a point
+  differential --minutes N [--seed S] the exhaustive parts in full and random histories; N may have a point
   differential --sabotage NAME        the gate's run with one of our answers altered: it has to fail
   options: --threads N (default: all), --trace FILE (where a failing case is written)";
 
