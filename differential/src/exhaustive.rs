@@ -105,7 +105,9 @@ fn every_byte(worker: &mut Worker, base: &Base, address: u16, depth: Depth) -> O
             return Ok(());
         }
         // A refused write ended the history: go on behind it, on a new board.
-        let trials_before = (played - 1 - base.prelude.len()) / trial_length;
+        let refused = played - 1 - base.prelude.len();
+        assert_eq!(refused % trial_length, 0, "a write that leads back to the state is refused");
+        let trials_before = refused / trial_length;
         refuses = true;
         value += trials_before + 1;
         while depth == Depth::Gate && value < 256 && !few(address, value as u8) {

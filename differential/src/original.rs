@@ -2,6 +2,7 @@
 
 use std::cell::{Cell, RefCell};
 use std::panic::{self, AssertUnwindSafe};
+use std::path::Path;
 use std::rc::Rc;
 
 use nes::cartridge::error::CartridgeError;
@@ -47,9 +48,13 @@ pub struct Original {
     notice: Rc<Cell<Answer>>,
 }
 
-/// Panics are expected here by the million; without this each would print a message.
+/// The original's panics are expected by the million; without this each would print a message. Its files are compiled
+/// by absolute paths and this crate's by relative ones, so a fault of the harness itself is still told.
 pub fn silence_panics() {
-    panic::set_hook(Box::new(|_| {}));
+    panic::set_hook(Box::new(|panic| match panic.location() {
+        Some(place) if Path::new(place.file()).is_relative() => eprintln!("{panic}"),
+        _ => {}
+    }));
 }
 
 /// Whether the original was built with overflow checks. Without PRG, UxROM's read of a place that is not mapped only

@@ -41,18 +41,11 @@ fn every_fault_is_found_and_made_small() {
     original::silence_panics();
     for (name, sabotage) in ALL {
         let summary = run(Plan::Short, 2, sabotage, false);
-        let failure = summary.failure.unwrap_or_else(|| fail(&format!("{name} is not found")));
+        let failure = summary.failure.unwrap_or_else(|| panic!("{name} is not found"));
         let small = report::shrunk(&failure, sabotage);
-        if small.case.events.len() > most_events(sabotage) || small.mismatch.fault != failure.mismatch.fault {
-            fail(&format!("{name} is not made small: {:?}", small.case.events));
-        }
+        assert!(small.case.events.len() <= most_events(sabotage), "{name} is not made small: {:?}", small.case.events);
+        assert_eq!(small.mismatch.fault, failure.mismatch.fault, "{name} is made into another fault");
     }
-}
-
-/// Panics are silenced in these tests, so the message is printed first.
-fn fail(message: &str) -> ! {
-    println!("{message}");
-    panic!("{message}")
 }
 
 /// Reads big-endian numbers from the recorded sample.

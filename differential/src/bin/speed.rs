@@ -30,6 +30,9 @@ const END: &str = "<!-- speed: end -->";
 const MEASURES: [&str; 5] =
     ["(a) reads, random", "(b) reads, in sequence", "(c) writes", "(d) clocks", "(e) a frame's mix"];
 
+/// The ratios to stay within, by column.
+const GOALS: [Option<f64>; 5] = [Some(1.5), Some(2.5), None, None, Some(2.0)];
+
 /// Images on which no call of this program can be refused, whatever the registers hold.
 const BOARDS: [(u8, u8, u8); 5] = [(0, 2, 0), (1, 16, 32), (2, 8, 0), (3, 2, 4), (4, 16, 16)];
 
@@ -229,6 +232,21 @@ fn table(all: &[[Times; 5]; 5], side: usize) -> String {
     text
 }
 
+/// Which goals the house mode misses.
+fn goals(all: &[[Times; 5]; 5]) -> String {
+    let mut missed = Vec::new();
+    for (name, row) in NAMES.iter().zip(all) {
+        for (column, times) in row.iter().enumerate() {
+            if GOALS[column].is_some_and(|goal| times[1] / times[0] > goal) {
+                missed.push(format!("{name} {}", &MEASURES[column][..3]));
+            }
+        }
+    }
+    let outcome =
+        if missed.is_empty() { "met on every board".into() } else { format!("missed by {}", missed.join(", ")) };
+    format!("Goals for house mode, at most (a) 1.5, (b) 2.5, (e) 2.0: {outcome}.")
+}
+
 fn section(all: &[[Times; 5]; 5], rounds: usize) -> String {
     format!(
         "{BEGIN}\n\
@@ -237,10 +255,11 @@ fn section(all: &[[Times; 5]; 5], rounds: usize) -> String {
          calls, the sides by turns. The same calls in the same order on both, the answers' sums equal; buffers are not \
          cleared in between. Time includes the loop over the list of calls, the same on both sides. The original is \
          built for release as it stands, without overflow checks, and called through `Rc<RefCell<dyn Mapper>>`.\n\n\
-         House mode:\n\n{}\n\
+         House mode:\n\n{}\n{}\n\n\
          Board mode, beside the original, which has house mode only:\n\n{}{END}",
         processor(),
         table(all, 1),
+        goals(all),
         table(all, 2)
     )
 }
