@@ -101,15 +101,15 @@ fn every_byte(worker: &mut Worker, base: &Base, address: u16, depth: Depth) -> O
         let last = if refuses { value + 1 } else { 256 };
         let trial_length = lay_out(worker, base, address, value..last);
         let played = worker.play_events(&base.image)?;
-        if played == worker.events.len() && !refuses {
-            return Ok(());
+        if played == worker.events.len() {
+            value = last;
+            continue;
         }
         // A refused write ended the history: go on behind it, on a new board.
         let refused = played - 1 - base.prelude.len();
         assert_eq!(refused % trial_length, 0, "a write that leads back to the state is refused");
-        let trials_before = refused / trial_length;
+        value += refused / trial_length + 1;
         refuses = true;
-        value += trials_before + 1;
         while depth == Depth::Gate && value < 256 && !few(address, value as u8) {
             value += 1;
         }

@@ -108,7 +108,7 @@ fn long_round(worker: &mut Worker, seed: u64, round: u64) -> Outcome {
             let chr_rom = random.once_in(2);
             let base = Base::random_roomy(&mut random, MAPPERS[(round / 2_048 % 5) as usize], chr_rom);
             let from = 0x1000 * random.below(16) as u32;
-            exhaustive::every_write(worker, &base, from..from + 0x1000, Depth::Full)
+            exhaustive::every_write(worker, &base, from..from + 0x1000, Depth::Gate)
         }
         turn if turn % 64 == 1 => {
             let base = Base::random(&mut random, MAPPERS[(round / 64 % 5) as usize]);
@@ -138,6 +138,8 @@ fn write_jobs(depth: Depth) -> Vec<Job> {
             let mut random = Random::new(GATE_SEED, 1_000 + 100 * u64::from(mapper) + state);
             Base::random_roomy(&mut random, mapper, state % 2 == 1)
         });
+        // Refused writes are slow: the full depth takes them all from the first two states, one with CHR ROM.
+        let depth = if state < 2 { depth } else { Depth::Gate };
         for (block, base) in (0..32).flat_map(|block| bases.iter().map(move |base| (block, base.clone()))) {
             let addresses: Range<u32> = block * 0x800..(block + 1) * 0x800;
             jobs.push(Box::new(move |worker| exhaustive::every_write(worker, &base, addresses.clone(), depth)));
