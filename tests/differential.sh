@@ -33,6 +33,9 @@ log=$(mktemp)
 sample=$(mktemp)
 trap 'rm -f "$log" "$sample"' EXIT
 cd differential || exit 2
+if cargo fmt --version >/dev/null 2>&1; then
+  cargo fmt --all --check >"$log" 2>&1 || { cat "$log"; fail "cargo fmt would change it"; }
+fi
 cargo build --release --offline --quiet >"$log" 2>&1 || { cat "$log"; fail "it does not build"; }
 [ ! -s "$log" ] || { cat "$log"; fail "the build warns"; }
 cargo test --release --offline --quiet >"$log" 2>&1 || { cat "$log"; fail "the harness fails its own tests"; }

@@ -20,7 +20,7 @@ use nes::mappers::Mapper;
 const HELP: &str = "\
 speed: measures the exported calls against the original's and writes the table to docs/BENCHMARKS.md
 
-  speed [--rounds N] [--out FILE]    N rounds of each measurement, 61 if not said; FILE instead of docs/BENCHMARKS.md";
+  speed [--rounds N] [--out FILE]    N rounds of each measurement, 101 if not said; FILE instead of docs/BENCHMARKS.md";
 
 const CALLS: usize = 65_536;
 const BEGIN: &str = "<!-- speed: begin -->";
@@ -286,7 +286,7 @@ fn put(file: &Path, section: &str) -> io::Result<()> {
 }
 
 fn parse() -> Result<(usize, PathBuf), String> {
-    let mut rounds = 61;
+    let mut rounds = 101;
     let mut file = Path::new(env!("CARGO_MANIFEST_DIR")).join("../docs/BENCHMARKS.md");
     let mut arguments = env::args().skip(1);
     while let Some(name) = arguments.next() {
