@@ -1,0 +1,6 @@
+#[path = "../locate.rs"]
+mod locate;
+
+fn main() {
+    locate::write_root(&locate::module("", "original", "common/src/lib.rs"));
+}

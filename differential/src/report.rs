@@ -1,0 +1,77 @@
+//! A failing case in words: its image, its events with both sides' answers, and a trace file.
+
+use std::path::Path;
+use std::{fs, io};
+
+use crate::events::describe;
+use crate::original::Original;
+use crate::ours::Ours;
+use crate::run::{check, Failure};
+use crate::sabotage::Sabotage;
+use crate::shrink::{shrink, Case};
+use crate::trace;
+
+/// How often a case is tried while it is made small.
+const TRIES: usize = 20_000;
+
+/// The failing case made small, with what is wrong with it then.
+pub fn shrunk(failure: &Failure, sabotage: Sabotage) -> Failure {
+    let mut tries = 0;
+    let mut fails = |case: &Case| {
+        tries += 1;
+        tries < TRIES && check(case, sabotage).is_some_and(|mismatch| mismatch.fault == failure.mismatch.fault)
+    };
+    if !fails(&failure.case) {
+        return failure.clone();
+    }
+    let case = shrink(&failure.case, &mut fails);
+    let mismatch = check(&case, sabotage).unwrap_or_else(|| failure.mismatch.clone());
+    Failure { case, mismatch }
+}
+
+/// The report's lines. The trace, where the case fits into one, is also written to `file`.
+pub fn describe_failure(failure: &Failure, sabotage: Sabotage, file: &Path) -> String {
+    let Failure { case, mismatch } = failure;
+    let image = &case.image;
+    let mut text = format!("MISMATCH: {}\n", mismatch.what);
+    text +=
+        &format!("header {}; {} bytes; fill {:?}\n", trace::hex(&image.header).trim_end(), image.length, image.fill);
+    text += &event_lines(case, sabotage, mismatch.event);
+    match trace::encode(case) {
+        None => text += "(too large for a trace)\n",
+        Some(bytes) => {
+            text += "as a trace, in hex:\n";
+            text += &trace::hex(&bytes);
+            text += &written(file, &bytes);
+        }
+    }
+    text
+}
+
+fn written(file: &Path, bytes: &[u8]) -> String {
+    let write = || -> io::Result<()> {
+        fs::create_dir_all(file.parent().unwrap_or(Path::new(".")))?;
+        fs::write(file, bytes)
+    };
+    match write() {
+        Ok(()) => format!("the trace is in {}\n", file.display()),
+        Err(error) => format!("the trace could not be written to {}: {error}\n", file.display()),
+    }
+}
+
+/// A line for each event up to the failing one, with both answers.
+fn event_lines(case: &Case, sabotage: Sabotage, failing: Option<usize>) -> String {
+    let mut ours = Ours::new(sabotage);
+    let accepted = ours.load(&case.image.bytes) == 0;
+    let (true, Ok(mut original)) = (accepted, Original::load(&case.image.bytes)) else {
+        return String::new();
+    };
+    let mut text = String::new();
+    let last = failing.unwrap_or(case.events.len());
+    for (number, event) in case.events.iter().enumerate().take(last + 1) {
+        let (a, b) = (ours.call(event), original.call(event));
+        let (a, b) = (describe(event.kind, a), describe(event.kind, b));
+        text += &format!("{number:4} {:16} ours: {a:12} the original: {b}\n", event.to_string());
+    }
+    text
+}

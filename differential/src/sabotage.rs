@@ -1,0 +1,113 @@
+//! Faults that the harness puts into our side's answers to prove that the comparison finds them.
+//! Nothing here touches the library: an answer or a buffer is altered after the call.
+
+use crate::events::{Answer, REFUSED};
+use crate::ours::{PRG_RAM_MARK, STATE};
+
+#[derive(Clone, Copy, PartialEq, Eq, Debug)]
+pub enum Sabotage {
+    None,
+    /// MMC3: a read of A000-BFFF with R7 at 3 or more answers another byte.
+    ReadByte,
+    /// A bank past the end is answered as 0 instead of refused.
+    PastEnd,
+    /// A read that should be served is refused: UxROM's last byte.
+    Refuses,
+    /// A refused read answers another number.
+    OtherNumber,
+    /// A notice of the upper screen is answered as the lower one.
+    Notice,
+    /// MMC3: a clock with the reload mark and latch 0 answers yes.
+    ReloadClock,
+    /// A refused write changes the state.
+    StateAfterRefusal,
+    /// A refused write changes PRG RAM.
+    RamAfterRefusal,
+    /// A write to CHR RAM lands one byte further.
+    StrayStore,
+    /// A load refused with 7 is accepted.
+    ShortImage,
+    /// The header reader answers byte 15 as 0.
+    HeaderByte,
+}
+
+pub const ALL: [(&str, Sabotage); 11] = [
+    ("read-byte", Sabotage::ReadByte),
+    ("past-end", Sabotage::PastEnd),
+    ("refuses", Sabotage::Refuses),
+    ("other-number", Sabotage::OtherNumber),
+    ("notice", Sabotage::Notice),
+    ("reload-clock", Sabotage::ReloadClock),
+    ("state-after-refusal", Sabotage::StateAfterRefusal),
+    ("ram-after-refusal", Sabotage::RamAfterRefusal),
+    ("stray-store", Sabotage::StrayStore),
+    ("short-image", Sabotage::ShortImage),
+    ("header-byte", Sabotage::HeaderByte),
+];
+
+impl Sabotage {
+    pub fn named(name: &str) -> Option<Sabotage> {
+        ALL.iter().find(|(known, _)| *known == name).map(|(_, sabotage)| *sabotage)
+    }
+
+    pub fn read(self, answer: Answer, address: u16, state: &[u8; STATE]) -> Answer {
+        let mapper = state[0] >> 2 & 15;
+        match self {
+            Sabotage::ReadByte if mapper == 4 && address & 0xe000 == 0xa000 && r7(state) >= 3 => {
+                answer ^ (answer < REFUSED) as Answer
+            }
+            Sabotage::PastEnd if answer == REFUSED + 11 => 0,
+            Sabotage::Refuses if mapper == 2 && address == 0xffff => REFUSED + 11,
+            Sabotage::OtherNumber if answer == REFUSED + 13 => REFUSED + 11,
+            _ => answer,
+        }
+    }
+
+    pub fn write(
+        self,
+        answer: Answer,
+        address: u16,
+        state: &mut [u8; STATE],
+        prg_ram: &mut [u8],
+        chr_ram: &mut [u8],
+    ) -> Answer {
+        match self {
+            Sabotage::Notice if answer == b'U' as Answer => return b'L' as Answer,
+            Sabotage::StateAfterRefusal if answer >= REFUSED => state[39] ^= 1,
+            Sabotage::RamAfterRefusal if answer >= REFUSED => prg_ram[PRG_RAM_MARK] ^= 1,
+            Sabotage::StrayStore if address < 0x1fff && answer == 0 => {
+                let at = address as usize;
+                chr_ram[at + 1] ^= chr_ram[at] & 1;
+            }
+            _ => {}
+        }
+        answer
+    }
+
+    pub fn clock(self, answer: Answer, before: &[u8; STATE]) -> Answer {
+        let reload_with_latch_0 = before[32] == 0 && before[34] >> 6 & 1 == 1;
+        if self == Sabotage::ReloadClock && reload_with_latch_0 {
+            return 1;
+        }
+        answer
+    }
+
+    pub fn load(self, answer: Answer) -> Answer {
+        if self == Sabotage::ShortImage && answer == REFUSED + 7 {
+            return 0;
+        }
+        answer
+    }
+
+    pub fn header(self, fields: &mut [u8]) {
+        if let (Sabotage::HeaderByte, Some(last)) = (self, fields.last_mut()) {
+            *last = 0;
+        }
+    }
+}
+
+/// MMC3's R7, the last digit of word 3: after six bytes and R6's six bits.
+fn r7(state: &[u8; STATE]) -> u8 {
+    let word = u64::from_le_bytes(state[24..32].try_into().expect("eight bytes"));
+    (word >> 52) as u8 & 63
+}
