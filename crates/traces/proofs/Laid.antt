@@ -1,11 +1,10 @@
 -- Bytes laid after bytes are their concatenation laid at once. Assumes nothing.
-use mathlib.Core.Path.{_≡_, refl, sym, ap, _∙_}
+use mathlib.Core.Path.{_≡_, sym, ap, _∙_}
 use mathlib.Core.List.{List, [], _∷_, _++_}
 use Prim.Native.Nat.{ℕ, suc, _+_, _≤_, _<_}
-use native.Mathlib.Nat.{add-zero}
 use native.Mathlib.Numerals.{add-one}
 use native.Mathlib.Omega.{arith}
-use lib.ListN.{length, take, getD, set, length-set, length-append}
+use lib.ListN.{length, take, getD, set, length-append}
 use lib.Seq.{take-suc, length-take-le}
 use Rattle.traces.specs.Text.{laid}
 use Rattle.traces.specs.Steps.{Puts}
@@ -16,12 +15,6 @@ laid-append s at [] ys = ap (λ (n : ℕ). laid s n ys) (omega arith)
 laid-append s at (x ∷ xs) ys =
     laid-append (set s at x) (suc at) xs ys
     ∙ ap (λ (n : ℕ). laid (laid (set s at x) (suc at) xs) n ys) (omega arith)
-
--- no buffer grows
-pub length-laid : (s : List ℕ) (at : ℕ) (xs : List ℕ) → length (laid s at xs) ≡ length s
-unfolding laid
-length-laid s at [] = refl
-length-laid s at (x ∷ xs) = length-laid (set s at x) (suc at) xs ∙ simp length-set
 
 -- one byte more
 pub lay-more : (s : List ℕ) (at i : ℕ) (bs : List ℕ) → i < length bs

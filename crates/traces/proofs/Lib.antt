@@ -2,3 +2,4 @@ pub mod Laid
 pub mod Turns
 pub mod Whole
 pub mod Unique
+pub mod Readings

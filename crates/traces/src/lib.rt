@@ -42,7 +42,7 @@ pub struct Step {
     pub at: usize,
 }
 
-// ---- The format
+// The format: document 01 from "Standard input" to "left over".
 
 fn big_2(high: u8, low: u8) -> u16
     ensures { λ r. ⌜ r ≡ big2 high low ⌝ }
@@ -167,7 +167,7 @@ pub fn is_trace(trace: &[u8]) -> bool
     head_fits(trace) & (trace.len() == event_start(trace, count)) & events_fit(trace, count)
 }
 
-// ---- The text
+// The text, written into a lent buffer from a place on. Each function gives the place after what it wrote.
 
 // Past the end of the text nothing is stored, and the place moves on all the same.
 fn put_all(text: &mut [u8], at: usize, bytes: &[u8]) -> usize
@@ -362,7 +362,7 @@ fn put_loaded(text: &mut [u8], cart: Cartridge) -> usize
     put_counts(text, counts, cart.prg, cart.chr)
 }
 
-// ---- The run
+// The run: the load, then each event's call and its line.
 
 fn play(board: Board, image: &[u8], prg: &mut [u8], chr: &mut [u8], event: Event) -> Played
     ensures { λ r. ⌜ PlayOwes (now (image .entry)) event (state board (now (prg .entry)) (now (chr .entry))) r (now (prg .exit)) (now (chr .exit)) ⌝ }

@@ -1,12 +1,11 @@
 -- After i turns the flag is that of the first i events. Assumes nothing.
 use Rattle.rules.proofs.Picks.{picks}
-use mathlib.Core.Path.{_≡_, refl, _∙_, ap}
-use mathlib.Core.Bool.{Bool, _&&_}
+use mathlib.Core.Path.{_≡_, refl, _∙_}
 use Prim.Native.Nat.{_≤_, _-_}
 use native.Mathlib.Numerals.{add-one}
 use native.Mathlib.Nat.{le-antisymm}
 use native.Mathlib.Omega.{arith}
-use Rattle.traces.specs.Format.{eventsFit, fitsAt}
+use Rattle.traces.specs.Format.{eventsFit}
 use Rattle.traces.proofs.events_fit.Statement.{statement}
 use Rattle.traces.proofs.events_fit.Tie as tie
 

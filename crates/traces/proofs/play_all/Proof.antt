@@ -1,6 +1,5 @@
 -- The load's line, then those of the events. Assumes nothing.
 use Rattle.rules.proofs.Picks.{picks}
-use native.Mathlib.Omega.{arith}
 use Rattle.traces.specs.Run.{state}
 use Rattle.traces.proofs.Whole.{whole}
 use Rattle.traces.proofs.play_all.Statement.{statement}

@@ -1,7 +1,7 @@
 -- After i turns the state is that after the first i events, and their lines are laid. Assumes nothing.
 use Rattle.rules.proofs.Picks.{picks}
 use mathlib.Core.Path.{_≡_, refl, ap}
-use Prim.Native.Nat.{ℕ, _≤_, _-_, _*_}
+use Prim.Native.Nat.{_≤_, _-_, _*_}
 use native.Mathlib.Nat.{le-antisymm}
 use native.Mathlib.Omega.{arith}
 use lib.ListN.{length}
