@@ -37,7 +37,7 @@ unfolding digit
 word-there w l =
     ap (λ (x : ℕ). word (x % 0x100) (w / 0x100 % 0x100) (w / 0x10000 % 0x100) (w / 0x1000000 % 0x100) (w / 0x100000000 % 0x100) (w / 0x10000000000 % 0x100) (w / 0x1000000000000 % 0x100) (w / 0x100000000000000 % 0x100)) (div-one w)
     ∙ word-sum (lowest w 0x100) (next w 0x100 0x100) (next w 0x10000 0x100) (next w 0x1000000 0x100) (next w 0x100000000 0x100) (next w 0x10000000000 0x100)
-      (next w 0x1000000000000 0x100) (next w 0x100000000000000 0x100) l
+    (next w 0x1000000000000 0x100) (next w 0x100000000000000 0x100) l
 
 -- the words of forty bytes made of words are these
 pub words-there : (w : Words) → OfWords w → wordsIn (bytesOf w) ≡ w
@@ -83,8 +83,8 @@ module _ (s : List ℕ) (b : AreBytes s) where
   unfolding wordAt digit
   eight-back k =
       let d =
-          word-digits (byte s k) (byte s (k + 1)) (byte s (k + 2)) (byte s (k + 3)) (byte s (k + 4)) (byte s (k + 5)) (byte s (k + 6)) (byte s (k + 7))
-          (b k) (b (k + 1)) (b (k + 2)) (b (k + 3)) (b (k + 4)) (b (k + 5)) (b (k + 6)) (b (k + 7))
+      word-digits (byte s k) (byte s (k + 1)) (byte s (k + 2)) (byte s (k + 3)) (byte s (k + 4)) (byte s (k + 5)) (byte s (k + 6)) (byte s (k + 7))
+      (b k) (b (k + 1)) (b (k + 2)) (b (k + 3)) (b (k + 4)) (b (k + 5)) (b (k + 6)) (b (k + 7))
       in
       λ i. d .b0 i ∷ d .b1 i ∷ d .b2 i ∷ d .b3 i ∷ d .b4 i ∷ d .b5 i ∷ d .b6 i ∷ d .b7 i ∷ []
 
