@@ -1,4 +1,4 @@
--- The answers as numbers: docs/ABI.md, "Answers". The cases have document 01's numbers and letters.
+-- The answers as numbers: docs/ABI.md, "Answers and refusals". The cases have document 01's numbers and letters.
 use Prim.Native.Nat.{ℕ, _+_}
 use mathlib.Core.List.{List, [], _∷_}
 use Rattle.cartridge.specs.Answers.{refusalNumber, mirroringLetter}

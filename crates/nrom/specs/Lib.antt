@@ -1,1 +1,2 @@
 pub mod Nrom
+pub mod Steps

@@ -1,29 +1,33 @@
 // NROM: no register. Ported from potatis nes/src/mappers/nrom.rs.
 ghost use mathlib.Core.Path.{_≡_};
-ghost use Rattle.nrom.specs.Nrom.{secondBlock, fixedPrg, readPlace, houseWritePlace, writePlace};
+ghost use Rattle.nrom.specs.Steps.{blockAt};
+ghost use Rattle.nrom.specs.Nrom.{fixedPrg, readPlace, houseWritePlace, writePlace};
 use banks::Bank8K;
 use banks::Bank16K;
 use cartridge::Cartridge;
 use common::Mode;
 use places::Place;
 
-// The second PRG block, or the first again if there is only one.
-fn second_block(cart: Cartridge) -> u32
-    ensures { λ r. ⌜ r ≡ secondBlock cart ⌝ }
+// In 8000-BFFF the first PRG block, in C000-FFFF the second, or the first again if there is only one.
+fn block(cart: Cartridge, address: u16) -> u32
+    ensures { λ r. ⌜ r ≡ blockAt cart address ⌝ }
 {
-    if cart.prg == 1 { 0 } else { 1 }
+    if cart.prg == 1 {
+        0
+    } else {
+        (address / 0x4000 % 2) as u32
+    }
 }
 
-// One or two PRG blocks in 8000-FFFF.
+// One or two PRG blocks in 8000-FFFF. Which of them is no branch: random addresses would miss it half the time.
 pub fn fixed_prg(cart: Cartridge, address: u16) -> Place
     ensures { λ r. ⌜ r ≡ fixedPrg cart address ⌝ }
 {
     match address {
-        0x8000..=0xbfff => places::prg_place_16k(cart, Bank16K(0), address - 0x8000),
-        0xc000..=0xffff => places::prg_place_16k(
+        0x8000..=0xffff => places::prg_place_16k(
             cart,
-            Bank16K(second_block(cart)),
-            address - 0xc000,
+            Bank16K(block(cart, address)),
+            address % 0x4000,
         ),
         _ => Place::Zero,
     }

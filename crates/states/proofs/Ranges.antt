@@ -1,16 +1,16 @@
 -- Most ranges hold by the width of a digit; what is left of `inRange` is what the code tests. Assumes nothing.
 use mathlib.Core.Path.{_≡_, refl, sym, ap, ap₂, _∙_}
-use mathlib.Core.Bool.{Bool, true, false, cond, _&&_}
+use mathlib.Core.Bool.{Bool, true, false, cond, _&&_, _||_}
 use Prim.Native.Nat.{ℕ, zero, suc, _+_, _*_, _/_, _%_, _<_}
 use native.Mathlib.Nat.{mod-lt, mod-mod, not-suc-le-zero, le-of-suc-le-suc}
 use native.Mathlib.Omega.{arith}
-use borrow.Author.Tests.{lt-ltb, eq-eqb, eqb-true, eqb-false}
+use borrow.Author.Tests.{lt-ltb, le-ltb, eq-eqb, eqb-true, eqb-false}
 use lib.Dec.{ltb, eqb}
 use Rattle.rules.proofs.Bools.{and-left, and-right}
 use Rattle.common.specs.declared.Mode.{Mode}
 use Rattle.common.specs.declared.Mode.the-variants.{House, Board as OnBoard}
-use Rattle.cartridge.specs.Answers.{same}
-use Rattle.cartridge.specs.Load.{couldLoad, isHeaders}
+use Rattle.cartridge.specs.Answers.{same, mapperNumber}
+use Rattle.cartridge.specs.Load.{isPower, badPrg, oddCounts, couldLoad, isHeaders}
 use Rattle.cartridge.specs.declared.MapperType.{MapperType}
 use Rattle.cartridge.specs.declared.MapperType.the-variants.{Nrom, Mmc1, Uxrom, Cnrom, Mmc3}
 use Rattle.cnrom.specs.Cnrom as cnrom
@@ -20,7 +20,7 @@ use Rattle.mmc3.specs.Range as mmc3
 use Rattle.mmc3.specs.Read.{register}
 use Rattle.boards.specs.Range.{inRange, registersIn, registersFit, screensFit, mirroringFits}
 use Rattle.states.specs.Words.{modeOf, mirroringOf, serialOf, cartAs, screensIn, mmc1In, mmc3In, boardAs}
-use Rattle.states.specs.Steps.{sameScreens, screensWithin}
+use Rattle.states.specs.Steps.{sameScreens, screensWithin, divides128, oddIn, couldLoadUpTo}
 use Rattle.states.specs.declared.Words.{Words}
 
 and-true : (x : Bool) → (x && true) ≡ x
@@ -110,6 +110,47 @@ mmc3-range w =
     simp
     (below (w .irq / 0x10000) 8 (omega arith), below (w .irq / 0x80000) 2 (omega arith), below (w .irq / 0x100000) 2 (omega arith), eq-eqb (w .regs % 0x80 * 2 % 2) 0 (omega arith), eq-eqb (w .regs / 0x80 % 0x80 * 2 % 2) 0 (omega arith), below (w .regs / 0x400000000000) 0x40 (omega arith), below (w .regs / 0x10000000000000) 0x40 (omega arith))
 
+-- a count below 256 divides 128 exactly when it is on the list of powers
+abbrev power-rule : ℕ → Bool
+power-rule n = alike (isPower n) (divides128 n)
+
+power-digits : all-below power-rule 256 ≡ true
+unfolding isPower divides128
+power-digits = refl
+
+powers : (n : ℕ) → isPower (n % 0x100) ≡ divides128 (n % 0x100)
+powers n = alike-is (isPower (n % 0x100)) (divides128 (n % 0x100)) (at power-rule 256 (n % 0x100) (mod-lt n (omega arith)) power-digits)
+
+odd-counts : (w : Words) → oddCounts (modeOf (w .cart % 2)) (w .cart / 0x100 % 0x100) (w .cart / 0x10000 % 0x100) ≡ oddIn w
+unfolding oddCounts modeOf oddIn
+odd-counts w = go (eqb (w .cart % 2) 0) refl
+  where
+    go :
+        (t : Bool)
+        → eqb (w .cart % 2) 0 ≡ t
+        → oddCounts (modeOf (w .cart % 2)) (w .cart / 0x100 % 0x100) (w .cart / 0x10000 % 0x100) ≡ oddIn w
+    go true e = simp (e)
+    go false e = simp (e, powers (w .cart / 0x100), powers (w .cart / 0x10000))
+
+few-blocks : (w : Words) → ltb 255 (w .cart / 0x100 % 0x100) ≡ false
+few-blocks w = le-ltb 255 (w .cart / 0x100 % 0x100) (let h : w .cart / 0x100 % 0x100 < 0x100 = mod-lt (w .cart / 0x100) (omega arith) in omega arith)
+
+or-false : (x : Bool) → (x || false) ≡ x
+or-false true = refl
+or-false false = refl
+
+could-fixed : (m : MapperType) (w : Words) → (eqb (mapperNumber m) 0 || eqb (mapperNumber m) 3) ≡ true → couldLoad (cartAs m w) ≡ couldLoadUpTo 2 w
+unfolding couldLoad couldLoadUpTo badPrg cartAs
+could-fixed m w e =
+    simp
+    (e, odd-counts, below (w .cart / 0x100) 0x100 (omega arith), below (w .cart / 0x10000) 0x100 (omega arith), headers-digit (w .cart / 64 % 4) (mod-lt (w .cart / 64) (omega arith)))
+
+could-switched : (m : MapperType) (w : Words) → (eqb (mapperNumber m) 0 || eqb (mapperNumber m) 3) ≡ false → couldLoad (cartAs m w) ≡ couldLoadUpTo 255 w
+unfolding couldLoad couldLoadUpTo badPrg cartAs
+could-switched m w e =
+    simp
+    (e, few-blocks, odd-counts, below (w .cart / 0x100) 0x100 (omega arith), below (w .cart / 0x10000) 0x100 (omega arith), headers-digit (w .cart / 64 % 4) (mod-lt (w .cart / 64) (omega arith)))
+
 -- the screens: fixed on three boards, by the mode on two
 fixed-nrom : (m : Mode) (s h : Bool) → screensFit m Nrom s h ≡ s
 unfolding screensFit
@@ -136,24 +177,24 @@ unfolding screensFit
 turned-mmc3 true s h = refl
 turned-mmc3 false s h = refl
 
-pub nrom-range : (w : Words) → inRange (boardAs Nrom w) ≡ couldLoad (cartAs Nrom w) && sameScreens w
+pub nrom-range : (w : Words) → inRange (boardAs Nrom w) ≡ couldLoadUpTo 2 w && sameScreens w
 unfolding inRange registersFit registersIn mirroringFits boardAs cartAs mmc1.isUnused mmc3.isStart mmc3.irqIsStart mmc3.start register
-nrom-range w = simp (and-true, fixed-nrom, same-screens)
+nrom-range w = simp (could-fixed Nrom w refl, and-true, fixed-nrom, same-screens)
 
-pub uxrom-range : (w : Words) → inRange (boardAs Uxrom w) ≡ couldLoad (cartAs Uxrom w) && sameScreens w
+pub uxrom-range : (w : Words) → inRange (boardAs Uxrom w) ≡ couldLoadUpTo 255 w && sameScreens w
 unfolding inRange registersFit registersIn mirroringFits boardAs cartAs mmc1.isUnused mmc3.isStart mmc3.irqIsStart mmc3.start register
-uxrom-range w = simp (and-true, fixed-uxrom, same-screens)
+uxrom-range w = simp (could-switched Uxrom w refl, and-true, fixed-uxrom, same-screens)
 
-pub cnrom-range : (w : Words) → inRange (boardAs Cnrom w) ≡ couldLoad (cartAs Cnrom w) && sameScreens w
+pub cnrom-range : (w : Words) → inRange (boardAs Cnrom w) ≡ couldLoadUpTo 2 w && sameScreens w
 unfolding inRange registersFit registersIn mirroringFits boardAs cartAs mmc1.isUnused mmc3.isStart mmc3.irqIsStart mmc3.start register
-cnrom-range w = simp (below (w .banks / 0x100) 4 (omega arith), and-true, fixed-cnrom, same-screens)
+cnrom-range w = simp (could-fixed Cnrom w refl, below (w .banks / 0x100) 4 (omega arith), and-true, fixed-cnrom, same-screens)
 
-pub mmc1-in-range : (w : Words) → inRange (boardAs Mmc1 w) ≡ couldLoad (cartAs Mmc1 w) && ltb (w .banks / 0x400 % 32) 31 && screensWithin w 4
+pub mmc1-in-range : (w : Words) → inRange (boardAs Mmc1 w) ≡ couldLoadUpTo 255 w && ltb (w .banks / 0x400 % 32) 31 && screensWithin w 4
 unfolding inRange registersFit registersIn mirroringFits boardAs cartAs mmc1.isUnused mmc3.isStart mmc3.irqIsStart mmc3.start register modeOf screensWithin
-mmc1-in-range w = simp (mmc1-range, and-true, turned-mmc1, same-screens, below (w .cart / 0x1000000) 4 (omega arith))
+mmc1-in-range w = simp (could-switched Mmc1 w refl, mmc1-range, and-true, turned-mmc1, same-screens, below (w .cart / 0x1000000) 4 (omega arith))
 
-pub mmc3-in-range : (w : Words) → inRange (boardAs Mmc3 w) ≡ couldLoad (cartAs Mmc3 w) && screensWithin w 2
+pub mmc3-in-range : (w : Words) → inRange (boardAs Mmc3 w) ≡ couldLoadUpTo 255 w && screensWithin w 2
 unfolding inRange registersFit registersIn mirroringFits boardAs cartAs mmc1.isUnused mmc3.isStart mmc3.irqIsStart mmc3.start register modeOf screensWithin screensIn sameScreens
 mmc3-in-range w =
     simp
-    (mmc3-range, and-true, turned-mmc3, same-digits (w .cart / 0x1000000 % 4) (w .cart / 64 % 4) (mod-lt (w .cart / 0x1000000) (omega arith)) (mod-lt (w .cart / 64) (omega arith)), headers-digit (w .cart / 0x1000000 % 4) (mod-lt (w .cart / 0x1000000) (omega arith)))
+    (could-switched Mmc3 w refl, mmc3-range, and-true, turned-mmc3, same-digits (w .cart / 0x1000000 % 4) (w .cart / 64 % 4) (mod-lt (w .cart / 0x1000000) (omega arith)) (mod-lt (w .cart / 64) (omega arith)), headers-digit (w .cart / 0x1000000 % 4) (mod-lt (w .cart / 0x1000000) (omega arith)))

@@ -4,7 +4,7 @@ ghost use mathlib.Core.Path.{_≡_};
 ghost use Rattle.cartridge.specs.declared.MapperType.the-variants.{Nrom as OnNrom, Mmc1 as OnMmc1, Uxrom as OnUxrom, Cnrom as OnCnrom, Mmc3 as OnMmc3};
 ghost use Rattle.states.specs.Words.{modeOf, mirroringOf, modeDigit, mirroringDigit, bit, serialOf, serialDigit, cartAs, screensIn, mmc1In, mmc3In, boardAs, cartWord, banksWord, rowOf, regsWord, irqWord, wordsOf};
 ghost use Rattle.states.specs.Kept.{cartIsWhole, isKept};
-ghost use Rattle.states.specs.Steps.{sameScreens, screensWithin};
+ghost use Rattle.states.specs.Steps.{sameScreens, screensWithin, divides128, oddIn, couldLoadUpTo};
 use boards::Board;
 use cartridge::Cartridge;
 use cartridge::MapperType;
@@ -117,6 +117,13 @@ fn serial_digit(serial: Serial) -> u8
     } else {
         15 + value / 2
     }
+}
+
+// A power of two from 1 to 128 is what divides 128.
+fn divides_128(n: u64) -> bool
+    ensures { λ r. ⌜ r ≡ divides128 n ⌝ }
+{
+    if n == 0 { false } else { 128 % n == 0 }
 }
 
 impl Words {
@@ -280,57 +287,76 @@ impl Words {
         }
     }
 
+    // Refusal 8's counts, which only board mode asks for.
+    fn odd_counts(self) -> bool
+        ensures { λ r. ⌜ r ≡ oddIn self ⌝ }
+    {
+        if self.cart % 2 == 0 {
+            false
+        } else {
+            let prg = self.cart / 0x100 % 0x100;
+            let chr = self.cart / 0x1_0000 % 0x100;
+            !divides_128(prg) | ((chr != 0) & !divides_128(chr))
+        }
+    }
+
+    // The cartridge is as a load could leave it, with at most so many PRG blocks.
+    fn could_load(self, most: u64) -> bool
+        ensures { λ r. ⌜ r ≡ couldLoadUpTo most self ⌝ }
+    {
+        let prg = self.cart / 0x100 % 0x100;
+        let chr = self.cart / 0x1_0000 % 0x100;
+        (!((prg == 0) | (most < prg)) & !self.odd_counts())
+            & (16 + prg * 16384 + chr * 8192 <= self.length)
+            & (self.cart / 64 % 4 < 2)
+    }
+
     // Each of the next five is whether the words are those of a board of its mapper. What the digits
     // cannot hold is not looked at again.
     pub fn nrom_fits(self) -> bool
         ensures { λ r. ⌜ r ≡ isKept OnNrom self ⌝ }
     {
-        let cart = self.cart_as(MapperType::Nrom);
         self.cart_is_whole(MapperType::Nrom)
             & ((self.banks == 0) & (self.regs == 0) & (self.irq == 0))
-            & (cart.could_load() & self.same_screens())
+            & (self.could_load(2) & self.same_screens())
     }
 
     pub fn mmc1_fits(self) -> bool
         ensures { λ r. ⌜ r ≡ isKept OnMmc1 self ⌝ }
     {
-        let cart = self.cart_as(MapperType::Mmc1);
         self.cart_is_whole(MapperType::Mmc1)
             & ((self.banks % 0x400 == 0)
                 & (self.banks < 0x1_0000_0000)
                 & (self.regs == 0)
                 & (self.irq == 0))
-            & (cart.could_load() & (self.banks / 0x400 % 32 < 31) & self.screens_within(4))
+            & (self.could_load(255) & (self.banks / 0x400 % 32 < 31) & self.screens_within(4))
     }
 
     pub fn uxrom_fits(self) -> bool
         ensures { λ r. ⌜ r ≡ isKept OnUxrom self ⌝ }
     {
-        let cart = self.cart_as(MapperType::Uxrom);
         self.cart_is_whole(MapperType::Uxrom)
             & ((self.banks < 0x100) & (self.regs == 0) & (self.irq == 0))
-            & (cart.could_load() & self.same_screens())
+            & (self.could_load(255) & self.same_screens())
     }
 
     pub fn cnrom_fits(self) -> bool
         ensures { λ r. ⌜ r ≡ isKept OnCnrom self ⌝ }
     {
-        let cart = self.cart_as(MapperType::Cnrom);
         self.cart_is_whole(MapperType::Cnrom)
             & ((self.banks % 0x100 == 0)
                 & (self.banks < 0x400)
                 & (self.regs == 0)
                 & (self.irq == 0))
-            & (cart.could_load() & self.same_screens())
+            & (self.could_load(2) & self.same_screens())
     }
 
     pub fn mmc3_fits(self) -> bool
         ensures { λ r. ⌜ r ≡ isKept OnMmc3 self ⌝ }
     {
-        let cart = self.cart_as(MapperType::Mmc3);
         self.cart_is_whole(MapperType::Mmc3)
             & ((self.banks == 0) & (self.regs < 0x400_0000_0000_0000) & (self.irq < 0x80_0000))
-            & (cart.could_load() & self.screens_within(2))
+            & (self.could_load(255) & self.screens_within(2))
     }
 }
 

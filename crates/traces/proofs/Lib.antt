@@ -1,0 +1,5 @@
+pub mod Laid
+pub mod Turns
+pub mod Whole
+pub mod Unique
+pub mod Readings

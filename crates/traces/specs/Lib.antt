@@ -1,0 +1,4 @@
+pub mod Format
+pub mod Text
+pub mod Run
+pub mod Steps

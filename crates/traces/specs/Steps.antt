@@ -1,0 +1,37 @@
+-- What the steps of a run owe one another. No public promise cites this file.
+use Prim.Native.Nat.{ℕ, _+_, _*_, _≤_}
+use mathlib.Core.Path.{_≡_}
+use mathlib.Core.List.{List}
+use lib.ListN.{length}
+use Rattle.traces.specs.Format.{imageOf, eventAt}
+use Rattle.traces.specs.Text.{line, laid}
+use Rattle.traces.specs.Run.{State, state, said, moved, after, lines}
+use Rattle.traces.specs.declared.Event.{Event}
+use Rattle.traces.specs.declared.Played.{Played}
+use Rattle.traces.specs.declared.Step.{Step}
+
+-- there is room for k bytes more: no count of bytes comes near the greatest number
+abbrev pub Room : ℕ → ℕ → Type 0
+Room at k = at + k ≤ 0x10000
+
+-- what writing bytes at a place owes: the place after them, the buffer with them laid in, and no more of them than said
+pub record Puts (most : ℕ) (s : List ℕ) (at : ℕ) (bytes : List ℕ) (r : ℕ) (s′ : List ℕ) : Type 0 where
+  pub next : r ≡ at + length bytes
+  pub text : s′ ≡ laid s at bytes
+  pub room : r ≤ at + most
+
+-- what a call of the board owes within a run: its answer, and the state after it
+pub record PlayOwes (image : List ℕ) (e : Event) (s : State) (r : Played) (prg′ chr′ : List ℕ) : Type 0 where
+  pub answer : r .answer ≡ said image e s
+  pub moves : state (r .board) prg′ chr′ ≡ moved image e s
+
+-- what an event owes: its line, and the state after it
+pub record StepOwes (t : List ℕ) (i : ℕ) (s : State) (at : ℕ) (text : List ℕ) (r : Step) (prg′ chr′ text′ : List ℕ) : Type 0 where
+  pub says : Puts 15 text at (line i (said (imageOf t) (eventAt t i) s)) (r .at) text′
+  pub moves : state (r .board) prg′ chr′ ≡ moved (imageOf t) (eventAt t i) s
+
+-- what the first events owe: their lines, and the state after them
+pub record EventsOwe (t : List ℕ) (k : ℕ) (s : State) (from : ℕ) (text : List ℕ) (r : ℕ) (prg′ chr′ text′ : List ℕ) : Type 0 where
+  pub says : Puts (15 * k) text from (lines t s k) r text′
+  pub prg-ram : prg′ ≡ after t s k .prg
+  pub chr-ram : chr′ ≡ after t s k .chr
