@@ -90,7 +90,7 @@ pub lowest-digit : (n : ℕ) → serialOf (n % 32) ≡ serialOf n
 unfolding serialOf
 lowest-digit n = simp (mod-mod)
 
-serial-range : (n : ℕ) → mmc1.serialFits (serialOf n) ≡ ltb (n % 32) 31
+pub serial-range : (n : ℕ) → mmc1.serialFits (serialOf n) ≡ ltb (n % 32) 31
 serial-range n =
     ap mmc1.serialFits (sym (lowest-digit n))
     ∙ alike-is (mmc1.serialFits (serialOf (n % 32))) (ltb (n % 32) 31) (at serial-rule 32 (n % 32) (mod-lt n (omega arith)) serial-digits)

@@ -28,8 +28,7 @@ use Rattle.states.specs.Words.{modeDigit, modeOf, mirroringDigit, mirror
 use Rattle.states.specs.Kept.{mapperIn, boardIn, cartIsWhole, restIsWhole, isKept}
 use Rattle.states.specs.RoundTrip.{OfItsTypes, OfWords}
 use Rattle.states.specs.declared.Words.{Words}
-use Rattle.states.specs.Steps.{screensWithin}
-use Rattle.states.proofs.Ranges.{lowest-digit, mmc1-in-range}
+use Rattle.states.proofs.Ranges.{lowest-digit, serial-range}
 use Rattle.states.proofs.Digits.{CartDigits, cart-digits, cart-row, cart-back, BanksDigits, banks-digits, banks-row, banks-back, RegsDigits, regs-digits, regs-row, regs-back, IrqDigits, irq-digits, irq-row, irq-back}
 use Rattle.states.proofs.Cases.{mode-small, mode-there, mode-back, mark-small, mark-there, mark-back, screens-small, screens-there, screens-back, mapper-small, mapper-is, serial-there, serial-back}
 use Rattle.states.proofs.Starts.{uxrom-start, cnrom-start, mmc1-unused, mmc3-start}
@@ -372,8 +371,12 @@ irq-kept w l =
     ∙ irq-back (w .irq) l
 
 serial-in : (w : Words) → inRange (boardAs Mmc1 w) ≡ true → ltb (w .banks / 0x400 % 32) 31 ≡ true
+unfolding inRange registersFit registersIn boardAs cartAs mmc1.fits mmc1In
 serial-in w h =
-    split-3 (couldLoad (cartAs Mmc1 w)) (ltb (w .banks / 0x400 % 32) 31) (screensWithin w 4) (sym (mmc1-in-range w) ∙ h) .1
+    let b = boardAs Mmc1 w in
+    let p = split-3 (couldLoad (b .cart)) (registersFit b) (mirroringFits b) h in
+    let q = split-4 (uxrom.isStart (b .uxrom)) (cnrom.isStart (b .cnrom)) (mmc1.fits (mmc1In w)) (mmc3.isStart (b .mmc3)) (p .1) in
+    sym (serial-range (w .banks / 0x400)) ∙ and-left (mmc1.serialFits (mmc1In w .serial)) (mmc1.regsFits (mmc1In w .regs)) (q .2)
 
 first-digit : (n : ℕ) → n < 0x100 → n % 0x100 + 0 * 0x100 + 0 * 0x400 + 0 * 0x8000 + 0 * 0x20000 + 0 * 0x40000 + 0 * 0x800000 + 0 * 0x10000000 ≡ n
 first-digit n h = omega arith
