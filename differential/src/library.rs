@@ -1,4 +1,5 @@
-//! The exported functions, as safe functions over slices. The only unsafe code of this crate.
+//! The exported functions, as safe functions over slices. The only unsafe code of this crate, but for a line
+//! of the program `speed`.
 //!
 //! Why every call below holds: each pointer and length come from one slice, so the bytes are there and readable, and
 //! writable where the slice is `&mut`; a slice's pointer is never null, empty or not; and the borrow checker keeps a

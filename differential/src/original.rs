@@ -61,7 +61,7 @@ pub fn silence_panics() {
 /// panics because it works out the number of the last bank.
 pub fn has_overflow_checks() -> bool {
     let without_prg = Image::new(header(2, 0, 0, 0), 16_400, Fill::Zero);
-    Original::load(&without_prg.bytes).is_ok_and(|board| board.read(0x4000) == PANICKED)
+    Original::load(&without_prg.bytes).map(|board| board.read(0x4000)) == Ok(PANICKED)
 }
 
 fn caught<T>(call: impl FnOnce() -> T) -> Option<T> {

@@ -285,7 +285,10 @@ fn work(shared: &Shared) {
     let mut worker = Worker::new(shared.sabotage);
     let mut counted = 0;
     while !shared.stop.load(Ordering::Relaxed) {
-        let Some(outcome) = next(shared, &mut worker) else { break };
+        let outcome = match next(shared, &mut worker) {
+            Some(outcome) => outcome,
+            None => break,
+        };
         let calls = worker.tally.calls();
         shared.calls.fetch_add(calls - counted, Ordering::Relaxed);
         counted = calls;
