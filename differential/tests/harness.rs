@@ -12,7 +12,7 @@ use differential::sabotage::{Sabotage, ALL};
 fn most_events(sabotage: Sabotage) -> usize {
     match sabotage {
         Sabotage::ShortImage | Sabotage::HeaderByte => 0,
-        Sabotage::Refuses | Sabotage::OtherNumber | Sabotage::StrayStore => 1,
+        Sabotage::Refuses | Sabotage::OtherNumber | Sabotage::PanicNumber | Sabotage::StrayStore => 1,
         Sabotage::StateAfterRefusal | Sabotage::RamAfterRefusal => 1,
         Sabotage::ReloadClock => 2,
         Sabotage::ReadByte => 3,
