@@ -6,6 +6,9 @@
 //! `&mut` slice apart from every other one, so no two lent buffers overlap. The functions keep no pointer after they
 //! return, and have no state of their own, so any thread may call them.
 
+// The wrapper for Rust links the library; two crates that did so would be one too many.
+use biekkarul as _;
+
 use crate::events::Answer;
 
 extern "C" {

@@ -81,10 +81,15 @@ impl Original {
     pub fn load(image: &Bytes) -> Result<Original, NoBoard> {
         let cartridge = cartridge(image)?;
         let board = caught(|| nes::board(cartridge)).ok_or(NoBoard::PanickedAtConstruction)?;
+        Ok(Original::of(board))
+    }
+
+    /// A board as the original's bus holds it, with its notices recorded.
+    pub fn of(board: Rc<RefCell<dyn Mapper>>) -> Original {
         let notice = Rc::new(Cell::new(0));
         let heard = Rc::clone(&notice);
         board.borrow_mut().on_runtime_mirroring(Box::new(move |mirroring| heard.set(letter(mirroring))));
-        Ok(Original { board, notice })
+        Original { board, notice }
     }
 
     #[inline]
