@@ -1,6 +1,7 @@
 //! Finds or makes the static library `libexports.a` and tells cargo to link it.
 //!
-//! 1. `BIEKKARUL_LIB` names a folder: the library in it is taken as it is.
+//! 1. `BIEKKARUL_LIB` names a folder: the library in it is taken as it is. A relative one counts from the
+//!    folder where cargo is started; empty is as unset.
 //! 2. The repository's `target/staticlib` has one that is newer than every source: it is taken.
 //! 3. `rt` is on the path: `rt staticlib exports` proves and makes it there, which may take minutes.
 //! 4. There is an older one and no `rt`: it is taken, with a warning.
@@ -27,8 +28,9 @@ fn link() -> Result<(), String> {
     println!("cargo:rerun-if-changed=build.rs");
     println!("cargo:rerun-if-env-changed=BIEKKARUL_LIB");
     check_target()?;
-    let archive = match env::var_os("BIEKKARUL_LIB") {
-        Some(folder) => prebuilt(Path::new(&folder))?,
+    let named = env::var_os("BIEKKARUL_LIB").filter(|folder| !folder.is_empty());
+    let archive = match named {
+        Some(folder) => prebuilt(&full_path(folder.into())?)?,
         None => from_repository()?,
     };
     let out = PathBuf::from(variable("OUT_DIR")?);
@@ -51,14 +53,16 @@ fn check_target() -> Result<(), String> {
     ))
 }
 
-fn prebuilt(folder: &Path) -> Result<PathBuf, String> {
-    // Cargo runs this in the crate's folder, which is seldom where the variable was set.
-    if !folder.is_absolute() {
-        return Err(format!(
-            "BIEKKARUL_LIB is '{}': name the folder by its full path",
-            folder.display()
-        ));
+/// Cargo runs this in the crate's folder; `PWD` still names the one where cargo was started.
+fn full_path(folder: PathBuf) -> Result<PathBuf, String> {
+    if folder.is_absolute() {
+        return Ok(folder);
     }
+    println!("cargo:rerun-if-env-changed=PWD");
+    Ok(PathBuf::from(variable("PWD")?).join(folder))
+}
+
+fn prebuilt(folder: &Path) -> Result<PathBuf, String> {
     let archive = folder.join(ARCHIVE);
     println!("cargo:rerun-if-changed={}", archive.display());
     if archive.is_file() {

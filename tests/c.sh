@@ -1,8 +1,8 @@
 #!/usr/bin/env bash
 # include/biekkarul.h is strict C, and a C program that calls every exported function gets the right answers.
 set -uo pipefail
+source "$(dirname "${BASH_SOURCE[0]}")/need.bash" || exit 2
 cd "$(dirname "${BASH_SOURCE[0]}")/.." || exit 2
-source tests/need.bash
 
 need_c || exit 1
 folder=$(library_folder) || exit 1

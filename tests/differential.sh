@@ -1,32 +1,31 @@
 #!/usr/bin/env bash
 # House mode of the exported library against the original Rust: tests of the harness, the recorded sample made anew, then
-# the gate's run.
-# The Rust is taken from the folder named in POTATIS, else from ../shared/docs/src; without it this is skipped.
-# The library is taken from the folder named in BIEKKARUL_LIB, else from target/staticlib, where it is made if missing.
+# the gate's run, which has to compare enough in less than three minutes.
+# The Rust is taken from the folder named in POTATIS, else from ../shared/docs/src; without either this is skipped.
+# The library is the one of library_folder.
 set -uo pipefail
+source "$(dirname "${BASH_SOURCE[0]}")/need.bash" || exit 2
 cd "$(dirname "${BASH_SOURCE[0]}")/.." || exit 2
+most_seconds=180
 
-skip() {
-  echo "skipped: the differential run ($1); the recorded answers still run"
-  exit 0
-}
 fail() {
   echo "differential: $1"
   exit 1
 }
 
-command -v cargo >/dev/null || skip "no cargo on this machine"
-sources=${POTATIS:-../shared/docs/src}
-[ -f "$sources/nes/src/cartridge.rs" ] || skip "the original Rust is not in $sources"
-POTATIS=$(cd "$sources" && pwd) || fail "cannot enter $sources"
-export POTATIS
+has_the_rust() { [ -f "$1/nes/src/cartridge.rs" ]; }
 
-library=${BIEKKARUL_LIB:-target/staticlib}
-if [ ! -f "$library/libexports.a" ]; then
-  [ -z "${BIEKKARUL_LIB:-}" ] || fail "no libexports.a in $library, which BIEKKARUL_LIB names"
-  rt staticlib exports >/dev/null || fail "rt staticlib exports does not make the library"
+if [ -n "${POTATIS:-}" ]; then
+  has_the_rust "$POTATIS" || fail "POTATIS names $POTATIS, which has no nes/src/cartridge.rs"
+elif has_the_rust ../shared/docs/src; then
+  POTATIS=$PWD/../shared/docs/src
+else
+  echo "skipped: the differential run (the original Rust is not in ../shared/docs/src); the recorded answers still run"
+  exit 0
 fi
-BIEKKARUL_LIB=$(cd "$library" && pwd) || fail "cannot enter $library"
+export POTATIS
+need_cargo || exit 1
+BIEKKARUL_LIB=$(library_folder) || exit 1
 export BIEKKARUL_LIB
 
 log=$(mktemp)
@@ -41,5 +40,10 @@ cargo build --release --offline --quiet >"$log" 2>&1 || { cat "$log"; fail "it d
 cargo test --release --offline --quiet >"$log" 2>&1 || { cat "$log"; fail "the harness fails its own tests"; }
 target/release/record "$sample" >"$log" 2>&1 || { cat "$log"; fail "the sample cannot be recorded"; }
 cmp -s "$sample" ../tests/recorded/house.bin || fail "tests/recorded/house.bin is not what record makes"
-target/release/differential --trace target/failure.trace >"$log" 2>&1 || { cat "$log"; fail "house mode and the Rust part"; }
+started=$SECONDS
+target/release/differential --trace target/failure.trace >"$log" 2>&1 ||
+  { cat "$log"; fail "house mode and the Rust part, or too little is compared"; }
+seconds=$((SECONDS - started))
 echo "differential: $(tail -n 1 "$log")"
+[ "$seconds" -lt "$most_seconds" ] || fail "the run took $seconds s; the bound is $most_seconds"
+echo "differential: the run took $seconds s, the bound is $most_seconds"

@@ -1,4 +1,15 @@
-# What the tests of the exported library stand on. Sourced, from the repository's root.
+# What the tests of the exported library stand on. Sourced before a test leaves the folder where it was started.
+
+# absolute VARIABLE: a folder that it names becomes a full path; empty is as unset.
+absolute() {
+  case ${!1:-} in
+  '') unset "$1" ;;
+  /*) ;;
+  *) export "$1=$PWD/${!1}" ;;
+  esac
+}
+absolute BIEKKARUL_LIB
+absolute POTATIS
 
 # install PACKAGE: from Debian, where that can be done; says nothing.
 install() {
@@ -24,10 +35,16 @@ need_c() {
 
 need_cargo() { need "cargo" cargo command -v cargo && need_c; }
 
-# The folder of the static library, which is made if it is not there.
+# Whether this library is there and no source is newer.
+is_fresh() { [ -f "$1" ] && [ -z "$(find crates crates.txt -newer "$1" -print -quit)" ]; }
+
+# The folder of the static library: the one that BIEKKARUL_LIB names, taken as it is; else target/staticlib, where the
+# library is made if it is missing or older than a source. Called from the repository's root.
 library_folder() {
   local folder=${BIEKKARUL_LIB:-$PWD/target/staticlib}
-  [ -f "$folder/libexports.a" ] || rt staticlib exports >&2
+  if [ -z "${BIEKKARUL_LIB:-}" ] && ! is_fresh "$folder/libexports.a"; then
+    rt staticlib exports >&2 || { echo "rt staticlib exports does not make the library" >&2; return 1; }
+  fi
   [ -f "$folder/libexports.a" ] || { echo "$folder has no libexports.a" >&2; return 1; }
   echo "$folder"
 }

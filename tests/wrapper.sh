@@ -2,8 +2,8 @@
 # rust/: it builds without warnings, its tests and examples hold, the sample trace gives its text, and bad
 # input gets a message and a status.
 set -uo pipefail
+source "$(dirname "${BASH_SOURCE[0]}")/need.bash" || exit 2
 cd "$(dirname "${BASH_SOURCE[0]}")/.." || exit 2
-source tests/need.bash
 
 need_cargo || exit 1
 folder=$(library_folder) || exit 1
@@ -54,6 +54,13 @@ build_with() {
   BIEKKARUL_LIB=$1 cargo build --offline --manifest-path "$manifest" --target-dir "$work/target"
 }
 
+# The same with a relative name, which counts from the folder where cargo is started.
+build_with_relative() {
+  local here=$PWD
+  (cd "$folder/.." && BIEKKARUL_LIB=${folder##*/} cargo build --offline --manifest-path "$here/$manifest" \
+    --target-dir "$work/target")
+}
+
 build_without() {
   ! build_with "$work" 2>"$work/err"
   cat "$work/err"
@@ -64,6 +71,7 @@ build_without() {
 repository=$work/repository
 make_repository() {
   mkdir -p "$repository/crates" "$repository/rust" "$work/bin"
+  touch "$repository/crates.txt"
   cp -r rust/src rust/build.rs rust/Cargo.toml rust/Cargo.lock "$repository/rust"
   cat >"$work/bin/rt" <<END
 #!/usr/bin/env bash
@@ -73,8 +81,8 @@ END
   chmod +x "$work/bin/rt"
 }
 
-build_there() {
-  env -u BIEKKARUL_LIB PATH="$work/bin:$PATH" cargo build --offline \
+build_there() { # an empty BIEKKARUL_LIB is as none
+  BIEKKARUL_LIB='' PATH="$work/bin:$PATH" cargo build --offline \
     --manifest-path "$repository/rust/Cargo.toml" --target-dir "$work/target" "$@"
 }
 
@@ -82,6 +90,11 @@ runs_rt() { # runs_rt COUNT ARGUMENT..: builds with the arguments; rt has then b
   local count=$1
   shift
   build_there "$@" && [ "$(grep -cxF "staticlib exports" "$work/runs")" -eq "$count" ]
+}
+
+tests_run_rt() { # tests_run_rt COUNT: the same for the library that the tests take
+  (cd "$repository" && BIEKKARUL_LIB='' PATH="$work/bin:$PATH" library_folder) &&
+    [ "$(grep -cxF "staticlib exports" "$work/runs")" -eq "$1" ]
 }
 
 says_that_rt_failed() {
@@ -124,6 +137,7 @@ if [ -x target/bin/tracerun ]; then
 fi
 
 step "a library named by BIEKKARUL_LIB" build_with "$folder"
+step "a relative folder" build_with_relative
 step "a folder without the library" build_without
 
 make_repository
@@ -131,6 +145,9 @@ step "rt makes the library" runs_rt 1
 step "a library newer than its sources is not made again" runs_rt 1 --release
 touch "$repository/crates/changed"
 step "a library older than its sources is made again" runs_rt 2
+step "the tests take a library newer than its sources" tests_run_rt 2
+touch "$repository/crates/changed"
+step "the tests make an older one again" tests_run_rt 3
 step "a failing rt" says_that_rt_failed
 
 echo "wrapper: $passed steps passed, $failed failed"

@@ -1,16 +1,27 @@
 //! Where the original's files are. Shared by the build scripts of the three crates that compile them.
 
+use std::ffi::OsString;
 use std::path::{Path, PathBuf};
 use std::{env, fs};
 
-/// The folder with `common/`, `mos6502/` and `nes/`: named by `POTATIS`, or beside the repository.
+/// The folder with `common/`, `mos6502/` and `nes/`: named by `POTATIS`, or beside the repository. A relative one counts
+/// from the folder where cargo is started, which `PWD` still names; empty is as unset.
 fn sources() -> PathBuf {
     println!("cargo:rerun-if-env-changed=POTATIS");
     let named = env::var_os("POTATIS").filter(|folder| !folder.is_empty());
-    let folder = named.map_or_else(beside_the_repository, PathBuf::from);
+    let folder = named.map_or_else(beside_the_repository, full_path);
     folder.canonicalize().unwrap_or_else(|error| {
         panic!("the original Rust is not at {}: {error} (name its folder in POTATIS)", folder.display())
     })
+}
+
+fn full_path(named: OsString) -> PathBuf {
+    let named = PathBuf::from(named);
+    if named.is_absolute() {
+        return named;
+    }
+    println!("cargo:rerun-if-env-changed=PWD");
+    PathBuf::from(env::var_os("PWD").expect("PWD names the folder where cargo was started")).join(named)
 }
 
 fn beside_the_repository() -> PathBuf {

@@ -118,7 +118,7 @@ impl Pair {
         let before = self.ours.state;
         let (ours, theirs) = (self.ours.call(event), original.call(event));
         board.count(event.kind, ours);
-        if ours != theirs {
+        if ours != theirs || theirs == PANICKED {
             self.check_refusal(image.mapper(), event, ours, theirs, &before)?;
             board.count_refusal(ours);
             return Ok(event.kind == Kind::Write);
@@ -131,7 +131,8 @@ impl Pair {
         Ok(false)
     }
 
-    /// Different answers agree in one way only: ours is the paper's refusal and the original panicked.
+    /// Different answers agree in one way only: ours is the paper's refusal and the original panicked. The number that
+    /// stands for a panic is no answer of ours.
     #[cold]
     fn check_refusal(
         &self,

@@ -1,9 +1,13 @@
-//! The exported functions, as safe functions over slices. The only unsafe code of this crate.
+//! The exported functions, as safe functions over slices. The only unsafe code of this crate, but for a line
+//! of the program `speed`.
 //!
 //! Why every call below holds: each pointer and length come from one slice, so the bytes are there and readable, and
 //! writable where the slice is `&mut`; a slice's pointer is never null, empty or not; and the borrow checker keeps a
 //! `&mut` slice apart from every other one, so no two lent buffers overlap. The functions keep no pointer after they
 //! return, and have no state of their own, so any thread may call them.
+
+// The wrapper for Rust links the library; two crates that did so would be one too many.
+use biekkarul as _;
 
 use crate::events::Answer;
 

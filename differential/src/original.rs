@@ -61,7 +61,7 @@ pub fn silence_panics() {
 /// panics because it works out the number of the last bank.
 pub fn has_overflow_checks() -> bool {
     let without_prg = Image::new(header(2, 0, 0, 0), 16_400, Fill::Zero);
-    Original::load(&without_prg.bytes).is_ok_and(|board| board.read(0x4000) == PANICKED)
+    Original::load(&without_prg.bytes).map(|board| board.read(0x4000)) == Ok(PANICKED)
 }
 
 fn caught<T>(call: impl FnOnce() -> T) -> Option<T> {
@@ -81,10 +81,15 @@ impl Original {
     pub fn load(image: &Bytes) -> Result<Original, NoBoard> {
         let cartridge = cartridge(image)?;
         let board = caught(|| nes::board(cartridge)).ok_or(NoBoard::PanickedAtConstruction)?;
+        Ok(Original::of(board))
+    }
+
+    /// A board as the original's bus holds it, with its notices recorded.
+    pub fn of(board: Rc<RefCell<dyn Mapper>>) -> Original {
         let notice = Rc::new(Cell::new(0));
         let heard = Rc::clone(&notice);
         board.borrow_mut().on_runtime_mirroring(Box::new(move |mirroring| heard.set(letter(mirroring))));
-        Ok(Original { board, notice })
+        Original { board, notice }
     }
 
     #[inline]

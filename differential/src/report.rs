@@ -19,7 +19,7 @@ pub fn shrunk(failure: &Failure, sabotage: Sabotage) -> Failure {
     let mut tries = 0;
     let mut fails = |case: &Case| {
         tries += 1;
-        tries < TRIES && check(case, sabotage).is_some_and(|mismatch| mismatch.fault == failure.mismatch.fault)
+        tries < TRIES && check(case, sabotage).map(|mismatch| mismatch.fault) == Some(failure.mismatch.fault)
     };
     if !fails(&failure.case) {
         return failure.clone();
@@ -63,8 +63,9 @@ fn written(file: &Path, bytes: &[u8]) -> String {
 fn event_lines(case: &Case, sabotage: Sabotage, failing: Option<usize>) -> String {
     let mut ours = Ours::new(sabotage);
     let accepted = ours.load(&case.image.bytes) == 0;
-    let (true, Ok(mut original)) = (accepted, Original::load(&case.image.bytes)) else {
-        return String::new();
+    let mut original = match Original::load(&case.image.bytes) {
+        Ok(original) if accepted => original,
+        _ => return String::new(),
     };
     let mut text = String::new();
     let last = failing.unwrap_or(case.events.len());

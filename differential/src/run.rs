@@ -73,6 +73,11 @@ type Job = Box<dyn Fn(&mut Worker) -> Outcome + Send + Sync>;
 
 const GATE_SEED: u64 = 4;
 const GATE_ROUNDS: u64 = 24_000;
+
+/// What the gate's run has to compare at least, in all and on each board.
+const GATE_CALLS: u64 = 20_000_000;
+const GATE_CALLS_ON_EACH: u64 = 4_000_000;
+
 const HISTORIES_PER_IMAGE: usize = 8;
 
 /// How many rounds a plan has that no clock ends.
@@ -200,7 +205,7 @@ fn register_jobs() -> Vec<Job> {
 pub enum Plan {
     /// The gate's: fixed seeds, the same calls every time.
     Gate,
-    /// The exhaustive parts in full and random rounds of this seed, by turns, for this many minutes.
+    /// The exhaustive parts, more of them, and random rounds of this seed, by turns, for this many minutes.
     Minutes { minutes: f64, seed: u64 },
     /// A few loads and random rounds: for tests of the harness itself.
     Short,
@@ -210,12 +215,27 @@ pub enum Plan {
 pub struct Summary {
     pub tally: Tally,
     pub rounds: u64,
+    /// How many of the exhaustive jobs came to their end, and how many there are.
+    pub jobs: (usize, usize),
     pub seconds: f64,
     pub failure: Option<Box<Failure>>,
 }
 
+impl Summary {
+    /// What a run of this plan owes and has not done, if anything.
+    pub fn shortfall(&self, plan: Plan) -> Option<String> {
+        let (done, all) = self.jobs;
+        match plan {
+            Plan::Gate if done < all => Some(format!("exhaustive jobs {done} of {all}")),
+            Plan::Gate => self.tally.shortfall(GATE_CALLS, GATE_CALLS_ON_EACH),
+            _ => None,
+        }
+    }
+}
+
 struct Shared {
     jobs: Vec<Job>,
+    jobs_done: AtomicUsize,
     next_turn: AtomicU64,
     next_job: AtomicUsize,
     next_round: AtomicU64,
@@ -237,6 +257,7 @@ pub fn run(plan: Plan, threads: usize, sabotage: Sabotage, progress: bool) -> Su
     };
     let shared = Shared {
         jobs,
+        jobs_done: AtomicUsize::new(0),
         next_turn: AtomicU64::new(0),
         next_job: AtomicUsize::new(0),
         next_round: AtomicU64::new(0),
@@ -263,6 +284,7 @@ pub fn run(plan: Plan, threads: usize, sabotage: Sabotage, progress: bool) -> Su
     Summary {
         tally: shared.tally.into_inner().expect("no worker panics while it holds the tally"),
         rounds,
+        jobs: (shared.jobs_done.load(Ordering::Relaxed), shared.jobs.len()),
         seconds: shared.started.elapsed().as_secs_f64(),
         failure: shared.failure.into_inner().expect("no worker panics while it holds the failure"),
     }
@@ -271,7 +293,7 @@ pub fn run(plan: Plan, threads: usize, sabotage: Sabotage, progress: bool) -> Su
 fn print_progress(shared: &Shared) {
     let calls = shared.calls.load(Ordering::Relaxed);
     let seconds = shared.started.elapsed().as_secs_f64();
-    let done = shared.next_job.load(Ordering::Relaxed).min(shared.jobs.len());
+    let done = shared.jobs_done.load(Ordering::Relaxed);
     let rounds = shared.next_round.load(Ordering::Relaxed);
     eprint!(
         "\r{seconds:.0} s: {} calls compared, {:.1} million a second; exhaustive jobs {done} of {}, {rounds} rounds ",
@@ -285,7 +307,10 @@ fn work(shared: &Shared) {
     let mut worker = Worker::new(shared.sabotage);
     let mut counted = 0;
     while !shared.stop.load(Ordering::Relaxed) {
-        let Some(outcome) = next(shared, &mut worker) else { break };
+        let outcome = match next(shared, &mut worker) {
+            Some(outcome) => outcome,
+            None => break,
+        };
         let calls = worker.tally.calls();
         shared.calls.fetch_add(calls - counted, Ordering::Relaxed);
         counted = calls;
@@ -309,7 +334,9 @@ fn next(shared: &Shared, worker: &mut Worker) -> Option<Outcome> {
     if job_is_next {
         let job = shared.next_job.fetch_add(1, Ordering::Relaxed);
         if let Some(job) = shared.jobs.get(job) {
-            return Some(job(worker));
+            let outcome = job(worker);
+            shared.jobs_done.fetch_add(usize::from(outcome.is_ok()), Ordering::Relaxed);
+            return Some(outcome);
         }
     }
     let round = shared.next_round.fetch_add(1, Ordering::Relaxed);

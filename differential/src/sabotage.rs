@@ -1,7 +1,7 @@
 //! Faults that the harness puts into our side's answers to prove that the comparison finds them.
 //! Nothing here touches the library: an answer or a buffer is altered after the call.
 
-use crate::events::{Answer, REFUSED};
+use crate::events::{Answer, PANICKED, REFUSED};
 use crate::ours::{PRG_RAM_MARK, STATE};
 
 #[derive(Clone, Copy, PartialEq, Eq, Debug)]
@@ -15,6 +15,8 @@ pub enum Sabotage {
     Refuses,
     /// A refused read answers another number.
     OtherNumber,
+    /// A refused read answers the number that stands for a panic of the original.
+    PanicNumber,
     /// A notice of the upper screen is answered as the lower one.
     Notice,
     /// MMC3: a clock with the reload mark and latch 0 answers yes.
@@ -31,11 +33,12 @@ pub enum Sabotage {
     HeaderByte,
 }
 
-pub const ALL: [(&str, Sabotage); 11] = [
+pub const ALL: [(&str, Sabotage); 12] = [
     ("read-byte", Sabotage::ReadByte),
     ("past-end", Sabotage::PastEnd),
     ("refuses", Sabotage::Refuses),
     ("other-number", Sabotage::OtherNumber),
+    ("panic-number", Sabotage::PanicNumber),
     ("notice", Sabotage::Notice),
     ("reload-clock", Sabotage::ReloadClock),
     ("state-after-refusal", Sabotage::StateAfterRefusal),
@@ -59,6 +62,7 @@ impl Sabotage {
             Sabotage::PastEnd if answer == REFUSED + 11 => 0,
             Sabotage::Refuses if mapper == 2 && address == 0xffff => REFUSED + 11,
             Sabotage::OtherNumber if answer == REFUSED + 13 => REFUSED + 11,
+            Sabotage::PanicNumber if answer == REFUSED + 13 => PANICKED,
             _ => answer,
         }
     }

@@ -89,10 +89,8 @@ fn plainer(event: Event) -> Vec<Event> {
         return Vec::new();
     }
     let addresses = [event.address & 0xe000, event.address & 0xe001, event.address & 0xfc00, event.address];
-    let values: &[u8] = match event.kind {
-        Kind::Write => &[0, 1, event.value & 0x81, event.value & 0x0f, event.value],
-        _ => &[0],
-    };
+    let written = [0, 1, event.value & 0x81, event.value & 0x0f, event.value];
+    let values = if event.kind == Kind::Write { &written[..] } else { &[0] };
     let all = addresses.into_iter().flat_map(|address| values.iter().map(move |&value| (address, value)));
     let before_itself = all.take_while(|&(address, value)| (address, value) != (event.address, event.value));
     before_itself.map(|(address, value)| Event { address, value, ..event }).collect()

@@ -78,6 +78,17 @@ impl Tally {
         self.load_answers[usize::from(answer.saturating_sub(REFUSED)) % 16] += 1;
     }
 
+    /// What is missing where there have to be this many calls in all, and this many on each board.
+    pub fn shortfall(&self, in_all: u64, on_each: u64) -> Option<String> {
+        let short = |what: &str, calls: u64, least: u64| {
+            (calls < least)
+                .then(|| format!("{} calls {what}, at least {} are asked for", grouped(calls), grouped(least)))
+        };
+        let boards = NAMES.iter().zip(&self.boards);
+        let on_a_board = boards.filter_map(|(name, board)| short(&format!("on {name}"), board.calls(), on_each)).next();
+        short("in all", self.calls(), in_all).or(on_a_board)
+    }
+
     /// The counts as a table, a row for each board.
     pub fn table(&self) -> String {
         let mut text = String::from(
@@ -128,4 +139,21 @@ pub fn grouped(number: u64) -> String {
         text.push(digit);
     }
     text
+}
+
+#[cfg(test)]
+mod tests {
+    use super::*;
+
+    #[test]
+    fn tells_what_is_missing() {
+        let mut tally = Tally { headers: 400, ..Tally::default() };
+        tally.boards.iter_mut().for_each(|board| board.reads = 120);
+        assert_eq!(tally.shortfall(1_000, 120), None);
+        assert_eq!(tally.shortfall(1_001, 0).unwrap(), "1,000 calls in all, at least 1,001 are asked for");
+        tally.boards[4].reads = 100;
+        tally.boards[4].clocks = 19;
+        tally.headers += 1;
+        assert_eq!(tally.shortfall(1_000, 120).unwrap(), "119 calls on MMC3, at least 120 are asked for");
+    }
 }

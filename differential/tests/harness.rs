@@ -12,7 +12,7 @@ use differential::sabotage::{Sabotage, ALL};
 fn most_events(sabotage: Sabotage) -> usize {
     match sabotage {
         Sabotage::ShortImage | Sabotage::HeaderByte => 0,
-        Sabotage::Refuses | Sabotage::OtherNumber | Sabotage::StrayStore => 1,
+        Sabotage::Refuses | Sabotage::OtherNumber | Sabotage::PanicNumber | Sabotage::StrayStore => 1,
         Sabotage::StateAfterRefusal | Sabotage::RamAfterRefusal => 1,
         Sabotage::ReloadClock => 2,
         Sabotage::ReadByte => 3,
@@ -32,8 +32,11 @@ fn the_original_has_overflow_checks() {
 fn without_a_fault_nothing_is_found() {
     original::silence_panics();
     let summary = run(Plan::Short, 2, Sabotage::None, false);
-    assert!(summary.failure.is_none(), "{}", summary.failure.map_or(String::new(), |failure| failure.mismatch.what));
+    let found = summary.failure.as_ref().map(|failure| &failure.mismatch.what);
+    assert_eq!(found, None);
     assert!(summary.tally.boards.iter().all(|board| board.calls() > 50_000));
+    assert_eq!(summary.shortfall(Plan::Short), None);
+    assert!(summary.shortfall(Plan::Gate).is_some(), "a short run would pass for the gate's");
 }
 
 #[test]

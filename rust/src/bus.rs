@@ -1,43 +1,81 @@
 //! A board in the shape of potatis's bus, to stand where the emulator has its mappers.
 //!
-//! The methods have the names and parameters that the emulator calls. Its traits belong to it, so it
-//! implements them for a type of its own around [`BusBoard`], one line each:
+//! The methods have the names and parameters that the emulator calls. Its traits and its `Mirroring`
+//! belong to it, so it implements the traits for a type of its own around [`BusBoard`], a line for each
+//! method, and says which of its mirrorings each of ours is:
 //!
 //! ```
+//! # mod mos6502 {
+//! #     pub mod memory {
+//! #         pub trait Bus {
+//! #             fn read8(&self, address: u16) -> u8;
+//! #             fn write8(&mut self, val: u8, address: u16);
+//! #         }
+//! #     }
+//! # }
+//! # mod nes {
+//! #     pub mod cartridge {
+//! #         #[derive(Clone, Copy, Debug, PartialEq)]
+//! #         pub enum Mirroring {
+//! #             Horizontal,
+//! #             Vertical,
+//! #             HardwiredFourScreen,
+//! #             SingleScreenUpper,
+//! #             SingleScreenLower,
+//! #         }
+//! #     }
+//! #     pub mod mappers {
+//! #         pub trait Mapper: crate::mos6502::memory::Bus {
+//! #             fn on_runtime_mirroring(&mut self, _: Box<dyn FnMut(&super::cartridge::Mirroring)>) {}
+//! #             fn irq(&mut self) -> bool {
+//! #                 false
+//! #             }
+//! #         }
+//! #     }
+//! # }
 //! use biekkarul::bus::BusBoard;
-//! use biekkarul::{Board, Mirroring, Mode, Refusal};
+//! use biekkarul::{Board, Mode, Refusal};
+//! use mos6502::memory::Bus;
+//! use nes::cartridge::Mirroring;
+//! use nes::mappers::Mapper;
 //! use std::cell::{Cell, RefCell};
 //! use std::rc::Rc;
 //!
-//! // What an emulator asks of a cartridge on its bus.
-//! trait Mapper {
-//!     fn read8(&self, address: u16) -> u8;
-//!     fn write8(&mut self, val: u8, address: u16);
-//!     fn irq(&mut self) -> bool;
-//!     fn on_runtime_mirroring(&mut self, callback: Box<dyn FnMut(&Mirroring)>);
-//! }
-//!
 //! struct Proved(BusBoard);
 //!
-//! impl Mapper for Proved {
+//! impl Bus for Proved {
 //!     fn read8(&self, address: u16) -> u8 {
 //!         self.0.read8(address)
 //!     }
 //!     fn write8(&mut self, val: u8, address: u16) {
 //!         self.0.write8(val, address)
 //!     }
+//! }
+//!
+//! impl Mapper for Proved {
 //!     fn irq(&mut self) -> bool {
 //!         self.0.irq()
 //!     }
-//!     fn on_runtime_mirroring(&mut self, callback: Box<dyn FnMut(&Mirroring)>) {
-//!         self.0.on_runtime_mirroring(callback)
+//!     fn on_runtime_mirroring(&mut self, mut callback: Box<dyn FnMut(&Mirroring)>) {
+//!         self.0
+//!             .on_runtime_mirroring(Box::new(move |mirroring| callback(&theirs(*mirroring))));
 //!     }
 //! }
 //!
+//! fn theirs(mirroring: biekkarul::Mirroring) -> Mirroring {
+//!     match mirroring {
+//!         biekkarul::Mirroring::Horizontal => Mirroring::Horizontal,
+//!         biekkarul::Mirroring::Vertical => Mirroring::Vertical,
+//!         biekkarul::Mirroring::SingleScreenUpper => Mirroring::SingleScreenUpper,
+//!         biekkarul::Mirroring::SingleScreenLower => Mirroring::SingleScreenLower,
+//!     }
+//! }
+//!
+//! # fn main() -> Result<(), Refusal> {
 //! # let mut image = vec![0x4E, 0x45, 0x53, 0x1A, 1, 1, 0x41, 0];
 //! # image.resize(16 + 16_384 + 8_192, 0);
 //! let board = Board::load(image, Mode::House)?;
-//! let screens = Rc::new(Cell::new(board.header_mirroring()));
+//! let screens = Rc::new(Cell::new(theirs(board.header_mirroring())));
 //! let rom: Rc<RefCell<dyn Mapper>> = Rc::new(RefCell::new(Proved(BusBoard::new(board))));
 //!
 //! let turned = Rc::clone(&screens);
@@ -45,8 +83,14 @@
 //!     .on_runtime_mirroring(Box::new(move |mirroring| turned.set(*mirroring)));
 //! rom.borrow_mut().write8(0x01, 0xA000);
 //! assert_eq!(screens.get(), Mirroring::Horizontal);
-//! # Ok::<(), Refusal>(())
+//! # assert_eq!(rom.borrow().read8(0x8000), 0);
+//! # assert!(!rom.borrow_mut().irq());
+//! # Ok(())
+//! # }
 //! ```
+//!
+//! The example stands on its own, with traits of the same shape; `differential/tests/bus.rs` in the
+//! repository has the same lines over potatis's own files and plays histories through them.
 //!
 //! # Where potatis panics
 //!

@@ -13,8 +13,10 @@ use differential::tally::grouped;
 const HELP: &str = "\
 differential: plays the same calls on the exported library (house mode) and on the original Rust, and compares
 
-  differential                        the gate's run: fixed seeds, the same calls every time
-  differential --minutes N [--seed S] the exhaustive parts in full and random histories; N may have a point
+  differential                        the gate's run: fixed seeds, the same calls every time; it fails too where it
+                                      has compared fewer than 20 million calls, or fewer than 4 million on a board
+  differential --minutes N [--seed S] the exhaustive parts, more of them, and random histories; N may have a point;
+                                      its last line tells how many of the exhaustive jobs came to their end
   differential --sabotage NAME        the gate's run with one of our answers altered: it has to fail
   options: --threads N (default: all), --trace FILE (where a failing case is written)";
 
@@ -51,15 +53,21 @@ fn main() -> ExitCode {
 fn conclude(options: &Options, summary: &Summary) -> ExitCode {
     println!("{}", summary.tally.table());
     let calls = grouped(summary.tally.calls());
-    match &summary.failure {
-        None => {
-            println!("{} rounds, {:.1} s: {calls} calls compared, no mismatch", summary.rounds, summary.seconds);
+    let (done, all) = summary.jobs;
+    let extent = format!("exhaustive jobs {done} of {all}, {} rounds, {:.1} s", summary.rounds, summary.seconds);
+    match (&summary.failure, summary.shortfall(options.plan)) {
+        (None, None) => {
+            println!("{extent}: {calls} calls compared, no mismatch");
             ExitCode::SUCCESS
         }
-        Some(failure) => {
+        (None, Some(what)) => {
+            println!("{extent}: no mismatch, but too little was compared: {what}");
+            ExitCode::FAILURE
+        }
+        (Some(failure), _) => {
             let small = report::shrunk(failure, options.sabotage);
             print!("{}", report::describe_failure(&small, options.sabotage, &options.trace));
-            println!("{:.1} s: {calls} calls compared, then a mismatch", summary.seconds);
+            println!("{extent}: {calls} calls compared, then a mismatch");
             ExitCode::FAILURE
         }
     }

@@ -13,9 +13,12 @@ const HELP: &str = "record: writes the original's answers to a fixed sample of c
 
 fn main() -> ExitCode {
     let arguments: Vec<String> = env::args().skip(1).collect();
-    let [file] = &arguments[..] else {
-        eprintln!("{HELP}");
-        return ExitCode::from(2);
+    let file = match &arguments[..] {
+        [file] => file,
+        _ => {
+            eprintln!("{HELP}");
+            return ExitCode::from(2);
+        }
     };
     if file == "--help" {
         println!("{HELP}");
@@ -36,7 +39,7 @@ fn main() -> ExitCode {
 fn summary(recorded: &[Recorded], headers: usize, bytes: usize) -> String {
     let events: usize = recorded.iter().map(|one| one.answers.len()).sum();
     let refused_loads = recorded.iter().filter(|one| one.load >= REFUSED).count();
-    let refused = recorded.iter().filter(|one| one.answers.last().is_some_and(|&last| last >= REFUSED)).count();
+    let refused = recorded.iter().filter(|one| one.answers.last().map_or(false, |&last| last >= REFUSED)).count();
     let greatest = recorded.iter().map(|one| one.case.image.length).max().unwrap_or(0);
     format!(
         "{} cases ({refused_loads} refused loads, {refused} refused calls), {} events, {headers} headers, \

@@ -2,12 +2,11 @@
 //! bus holds a board. See `--help`.
 
 use std::cell::{Cell, RefCell};
-use std::hint::black_box;
 use std::path::{Path, PathBuf};
 use std::process::ExitCode;
 use std::rc::Rc;
 use std::time::Instant;
-use std::{env, fs, io};
+use std::{env, fs, io, ptr};
 
 use differential::events::{clock, read, write, Event, Kind, REFUSED};
 use differential::images::{header, Fill, Image, NAMES};
@@ -35,6 +34,13 @@ const GOALS: [Option<f64>; 5] = [Some(1.5), Some(2.5), None, None, Some(2.0)];
 
 /// Images on which no call of this program can be refused, whatever the registers hold.
 const BOARDS: [(u8, u8, u8); 5] = [(0, 2, 0), (1, 16, 32), (2, 8, 0), (3, 2, 4), (4, 16, 16)];
+
+/// The value, which the compiler may no longer know: `std::hint::black_box`, which Rust 1.63 does not have yet.
+#[inline]
+fn black_box<T: Copy>(value: T) -> T {
+    // SAFETY: the pointer is a reference to a value that lives until the end of this function, and `T` is `Copy`.
+    unsafe { ptr::read_volatile(&value) }
+}
 
 /// Our side: the bytes that each call is lent.
 struct Ours {
@@ -237,7 +243,7 @@ fn goals(all: &[[Times; 5]; 5]) -> String {
     let mut missed = Vec::new();
     for (name, row) in NAMES.iter().zip(all) {
         for (column, times) in row.iter().enumerate() {
-            if GOALS[column].is_some_and(|goal| times[1] / times[0] > goal) {
+            if GOALS[column].map_or(false, |goal| times[1] / times[0] > goal) {
                 missed.push(format!("{name} {}", &MEASURES[column][..3]));
             }
         }
