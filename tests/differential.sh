@@ -39,7 +39,7 @@ cargo build --release --offline --quiet >"$log" 2>&1 || { cat "$log"; fail "it d
 [ ! -s "$log" ] || { cat "$log"; fail "the build warns"; }
 cargo test --release --offline --quiet >"$log" 2>&1 || { cat "$log"; fail "the harness fails its own tests"; }
 target/release/record "$sample" >"$log" 2>&1 || { cat "$log"; fail "the sample cannot be recorded"; }
-cmp -s "$sample" ../tests/recorded/house.bin || fail "tests/recorded/house.bin is not what record makes"
+cmp -s "$sample" ../crates/replay/stdin || fail "crates/replay/stdin is not what record makes"
 started=$SECONDS
 target/release/differential --trace target/failure.trace >"$log" 2>&1 ||
   { cat "$log"; fail "house mode and the Rust part, or too little is compared"; }

@@ -69,7 +69,7 @@ impl<'a> Reader<'a> {
 /// The recorded sample, played on the library: the file is whole, and its answers are ours.
 #[test]
 fn the_recorded_answers_are_ours() {
-    let bytes = include_bytes!("../../tests/recorded/house.bin");
+    let bytes = include_bytes!("../../crates/replay/stdin");
     let mut reader = Reader(bytes);
     assert_eq!(reader.take(4), b"BKR1");
     for number in 0..reader.number(2) {

@@ -4,3 +4,4 @@ pub mod Read
 pub mod Write
 pub mod Clock
 pub mod Runs
+pub mod Numbers

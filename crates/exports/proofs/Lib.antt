@@ -1,1 +1,4 @@
 pub mod Joined
+pub mod RoundTrip
+pub mod AsBoards
+pub mod Unique

@@ -18,7 +18,7 @@ unfoldable pub wordAt : List ℕ → ℕ → ℕ
 wordAt s i =
     word (byte s i) (byte s (i + 1)) (byte s (i + 2)) (byte s (i + 3)) (byte s (i + 4)) (byte s (i + 5)) (byte s (i + 6)) (byte s (i + 7))
 
--- "40 bytes, five 64-bit words"
+-- "40 bytes: five words of 64 bits"
 unfoldable pub wordsIn : List ℕ → Words
 wordsIn s = record { cart = wordAt s 0; length = wordAt s 8; banks = wordAt s 16; regs = wordAt s 24; irq = wordAt s 32 }
 
@@ -48,6 +48,6 @@ bytesOf w =
 abbrev pub encoded : Board → List ℕ
 encoded b = bytesOf (wordsOf b)
 
--- after an answer the next board's bytes; "After any refusal every lent buffer holds what it held"
+-- after an answer the next board's bytes; "After a refusal every lent buffer holds what it held"
 unfoldable pub kept : List ℕ → ℕ → Words → List ℕ
 kept s answer w = cond (ltb answer 256) (bytesOf w) s

@@ -1,4 +1,4 @@
--- What each exported call owes its caller: docs/ABI.md, "The calls".
+-- What each exported call owes its caller: docs/ABI.md, "Answers and refusals".
 use Prim.Native.Nat.{ℕ}
 use mathlib.Core.Path.{_≡_}
 use mathlib.Core.Bool.{Bool, cond, not, _&&_}
@@ -32,11 +32,11 @@ use Rattle.exports.specs.Bytes.{wordsIn, kept}
 abbrev pub boardIn : List ℕ → Board
 boardIn s = boardAs (mapperIn (wordsIn s)) (wordsIn s)
 
--- 10: "another length than the layout's, and bytes that no board could have"
+-- 10: not where "`state` is not 40 bytes, or no board could have it"
 abbrev pub isState : List ℕ → Bool
 isState s = eqb (length s) 40 && isKept (mapperIn (wordsIn s)) (wordsIn s)
 
--- the words are a board's, and the image is the one loaded
+-- the words are a board's, and "the image's length" is "the one loaded"
 unfoldable pub isKeptFor : MapperType → Words → ℕ → Bool
 isKeptFor m w n = isKept m w && isLoaded (boardAs m w) n
 
@@ -72,7 +72,7 @@ pub record ClockOwes (s : List ℕ) (r : ℕ) (s′ : List ℕ) : Type 0 where
   pub reply : r ≡ clockNumber (clocking s .answer)
   pub state : s′ ≡ kept s r (wordsOf (clocking s .board))
 
--- "load 9, 10 (state not 40 bytes, or mode above 1), 3, 4, 5, 6, 7, 8"
+-- load: "9, 10 (`state` is not 40 bytes, or `mode` is neither 0 house nor 1 board), 3, 4, 5, 6, 7, 8"
 abbrev pub decision : List ℕ → ℕ → ℕ → ℕ → ℕ → decided.Verdict
 decision image mode s prg chr =
     cond (ramsFit prg chr)
@@ -91,7 +91,7 @@ pub record LoadOwes (image : List ℕ) (mode : ℕ) (s prg chr : List ℕ) (r : 
   pub prg-ram : prg′ ≡ ramAfter (decision image mode (length s) (length prg) (length chr)) prg
   pub chr-ram : chr′ ≡ ramAfter (decision image mode (length s) (length prg) (length chr)) chr
 
--- what the header reader owes: the answer and the twelve fields
+-- what the header reader owes: the answer and the twelve fields; "10 (`fields` is not 12 bytes), 1, 2"
 pub record HeaderOwes (image f : List ℕ) (r : ℕ) (f′ : List ℕ) : Type 0 where
   pub reply : r ≡ cond (eqb (length f) 12) (headerNumber (headerRead image)) (refused StateOutOfRange)
   pub fields : f′ ≡ cond (eqb (length f) 12) (fieldsAfter (headerRead image) f) f

@@ -5,20 +5,12 @@ use mathlib.Core.List.{List, [], _∷_, _++_, map}
 use lib.ListN.{replicate}
 use Rattle.common.specs.declared.Mode.{Mode}
 use Rattle.common.specs.declared.Mode.the-variants.{House, Board as OnBoard}
-use Rattle.cartridge.specs.Answers.{refusalNumber, mirroringLetter}
-use Rattle.places.specs.declared.ReadAnswer.{ReadAnswer}
-use Rattle.places.specs.declared.ReadAnswer.the-variants.{Byte, Refused as NoByte}
 use Rattle.mmc1.specs.declared.Register.{Register}
 use Rattle.mmc1.specs.declared.Register.the-variants.{Control, Chr0, Chr1, Prg}
+use Rattle.boards.specs.Numbers.{refusedBy, readNumber, writeNumber, clockNumber, loadNumber}
 use Rattle.boards.specs.Runs.{Lent, Answer, after, answers}
 use Rattle.boards.specs.Runs.Answer.{toRead, toWrite, toClock}
 use Rattle.boards.specs.declared.Loaded.{Loaded}
-use Rattle.boards.specs.declared.LoadAnswer.{LoadAnswer}
-use Rattle.boards.specs.declared.LoadAnswer.the-variants.{Accepted, Refused as NotLoaded}
-use Rattle.boards.specs.declared.WriteAnswer.{WriteAnswer}
-use Rattle.boards.specs.declared.WriteAnswer.the-variants.{Quiet, Notice, Refused as NotWritten}
-use Rattle.boards.specs.declared.ClockAnswer.{ClockAnswer}
-use Rattle.boards.specs.declared.ClockAnswer.the-variants.{No, Yes, Refused as NotClocked}
 use Rattle.laws.specs.Calls.{Event, loadWith, call}
 use Rattle.laws.specs.Calls.Event.{reads, writes, clocks}
 use Rattle.laws.specs.Loads.{Done, loads}
@@ -52,33 +44,7 @@ pub data Question : Type 0 where
   modesAfter : Mode → List ℕ → List Event → Question
   prgAfter : Mode → List ℕ → List Event → Question
 
--- answers as numbers: a byte, a letter, yes and no as 1 and 0, and a refusal as 1,000 and its number
-abbrev pub refused : ℕ → ℕ
-refused n = 1000 + n
-
--- of a load, 0 where it is accepted
-abbrev pub loadNumber : LoadAnswer → ℕ
-loadNumber Accepted = 0
-loadNumber (NotLoaded why) = refused (refusalNumber why)
-
--- of a read
-abbrev pub readNumber : ReadAnswer → ℕ
-readNumber (Byte v) = v
-readNumber (NoByte why) = refused (refusalNumber why)
-
--- of a write, 0 where it is quiet
-abbrev pub writeNumber : WriteAnswer → ℕ
-writeNumber Quiet = 0
-writeNumber (Notice m) = mirroringLetter m
-writeNumber (NotWritten why) = refused (refusalNumber why)
-
--- of a clock
-abbrev pub clockNumber : ClockAnswer → ℕ
-clockNumber No = 0
-clockNumber Yes = 1
-clockNumber (NotClocked why) = refused (refusalNumber why)
-
--- of any call
+-- the number of any call's answer
 abbrev pub answerNumber : Answer → ℕ
 answerNumber (toRead r) = readNumber r
 answerNumber (toWrite r) = writeNumber r
@@ -166,17 +132,17 @@ seven = clocks ∷ clocks ∷ clocks ∷ clocks ∷ clocks ∷ clocks ∷ clocks
 abbrev pub rows : List Row
 rows =
     -- P1: 16,399 bytes, good magic: 3
-    row (whenLoaded House (image 16399 1 0 0x00)) (refused 3 ∷ [])
+    row (whenLoaded House (image 16399 1 0 0x00)) (refusedBy 3 ∷ [])
     -- P2: 16,400 bytes, PRG 1, CHR 0, NROM: accepted
     ∷ row (whenLoaded House nrom) (0 ∷ [])
     -- P3: P2 with byte 6 = 54: 4, not 5
-    ∷ row (whenLoaded House (image 16400 1 0 0x54)) (refused 4 ∷ [])
+    ∷ row (whenLoaded House (image 16400 1 0 0x54)) (refusedBy 4 ∷ [])
     -- P4: with 08: 5
-    ∷ row (whenLoaded House (image 16400 1 0 0x08)) (refused 5 ∷ [])
+    ∷ row (whenLoaded House (image 16400 1 0 0x08)) (refusedBy 5 ∷ [])
     -- P5: P2 with PRG 3: 6, not 7
-    ∷ row (whenLoaded House (image 16400 3 0 0x00)) (refused 6 ∷ [])
+    ∷ row (whenLoaded House (image 16400 3 0 0x00)) (refusedBy 6 ∷ [])
     -- P6: UxROM, PRG 2, CHR 0, 32,783 bytes: 7; 32,784: accepted
-    ∷ row (whenLoaded House (image 32783 2 0 0x20)) (refused 7 ∷ [])
+    ∷ row (whenLoaded House (image 32783 2 0 0x20)) (refusedBy 7 ∷ [])
     ∷ row (whenLoaded House (image 32784 2 0 0x20)) (0 ∷ [])
     -- P7: MMC1 serial bits 1, 1, 0, 0, 1 at 8000, header vertical: control 19, notice horizontal
     ∷ row (loadsOf House mmc1 fiveBits) (0 ∷ 19 ∷ [])
@@ -193,9 +159,9 @@ rows =
     ∷ row (whenPlayed House mmc3 (armed 2 seven)) (0 ∷ 0 ∷ 0 ∷ 0 ∷ 0 ∷ 0 ∷ 1 ∷ 0 ∷ 0 ∷ 1 ∷ [])
     ∷ row (whenPlayed OnBoard mmc3 (armed 2 seven)) (0 ∷ 0 ∷ 0 ∷ 0 ∷ 0 ∷ 1 ∷ 0 ∷ 0 ∷ 1 ∷ 0 ∷ [])
     -- P11: UxROM, PRG 2, bank 2, read 8000: 11; board: PRG byte 0
-    ∷ row (whenPlayed House uxrom (writes 0x8000 2 ∷ reads 0x8000 ∷ [])) (0 ∷ refused 11 ∷ [])
+    ∷ row (whenPlayed House uxrom (writes 0x8000 2 ∷ reads 0x8000 ∷ [])) (0 ∷ refusedBy 11 ∷ [])
     ∷ row (whenPlayed OnBoard uxrom (writes 0x8000 2 ∷ reads 0x8000 ∷ [])) (0 ∷ 7 ∷ [])
     -- P12: CNROM, PRG 1, read BFFF: 13; board: PRG byte 16,383
-    ∷ row (whenPlayed House cnrom (reads 0xBFFF ∷ [])) (refused 13 ∷ [])
+    ∷ row (whenPlayed House cnrom (reads 0xBFFF ∷ [])) (refusedBy 13 ∷ [])
     ∷ row (whenPlayed OnBoard cnrom (reads 0xBFFF ∷ [])) (9 ∷ [])
     ∷ []

@@ -28,7 +28,7 @@ and-true true = refl
 and-true false = refl
 
 -- a fact of each of four digits is one of every digit below 4
-four : (P : ℕ → Type 0) → P 0 → P 1 → P 2 → P 3 → (d : ℕ) → d < 4 → P d
+pub four : (P : ℕ → Type 0) → P 0 → P 1 → P 2 → P 3 → (d : ℕ) → d < 4 → P d
 four P a b c e zero h = a
 four P a b c e (suc zero) h = b
 four P a b c e (suc (suc zero)) h = c
@@ -66,11 +66,11 @@ alike-is true false e = sym e
 alike-is false true e = e
 alike-is false false e = refl
 
-abbrev all-below : (ℕ → Bool) → ℕ → Bool
+abbrev pub all-below : (ℕ → Bool) → ℕ → Bool
 all-below f zero = true
 all-below f (suc n) = all-below f n && f n
 
-at : (f : ℕ → Bool) (n k : ℕ) → k < n → all-below f n ≡ true → f k ≡ true
+pub at : (f : ℕ → Bool) (n k : ℕ) → k < n → all-below f n ≡ true → f k ≡ true
 at f zero k h e = absurd (not-suc-le-zero h)
 at f (suc n) k h e = go (λ (l : k < n). at f n k l (and-left (all-below f n) (f n) e)) (eqb k n) refl
   where
@@ -86,13 +86,13 @@ unfolding mmc1.serialFits serialOf
 serial-digits = refl
 
 -- only the lowest digit counts
-lowest : (n : ℕ) → serialOf (n % 32) ≡ serialOf n
+pub lowest-digit : (n : ℕ) → serialOf (n % 32) ≡ serialOf n
 unfolding serialOf
-lowest n = simp (mod-mod)
+lowest-digit n = simp (mod-mod)
 
-serial-range : (n : ℕ) → mmc1.serialFits (serialOf n) ≡ ltb (n % 32) 31
+pub serial-range : (n : ℕ) → mmc1.serialFits (serialOf n) ≡ ltb (n % 32) 31
 serial-range n =
-    ap mmc1.serialFits (sym (lowest n))
+    ap mmc1.serialFits (sym (lowest-digit n))
     ∙ alike-is (mmc1.serialFits (serialOf (n % 32))) (ltb (n % 32) 31) (at serial-rule 32 (n % 32) (mod-lt n (omega arith)) serial-digits)
 
 below : (n k : ℕ) → 0 < k → ltb (n % k) k ≡ true

@@ -24,11 +24,11 @@ mapperIn w =
 abbrev pub boardIn : Words → Board
 boardIn w = boardAs (mapperIn w) w
 
--- "What is above the last digit is 0", and the mapper is this one
+-- "What is above a word's last digit is 0", and the mapper is this one
 unfoldable pub cartIsWhole : MapperType → Words → Bool
 cartIsWhole m w = ltb (w .cart) 0x4000000 && eqb (mapperDigit w) (mapperNumber m)
 
--- the same of the other words; "A word or digit that the board does not use is 0"
+-- the same of the other words, "and so is every digit of another board than this one's"
 unfoldable pub restIsWhole : MapperType → Words → Bool
 restIsWhole Nrom w = eqb (w .banks) 0 && eqb (w .regs) 0 && eqb (w .irq) 0
 restIsWhole Mmc1 w = eqb (w .banks % 0x400) 0 && ltb (w .banks) 0x100000000 && eqb (w .regs) 0 && eqb (w .irq) 0

@@ -1,0 +1,53 @@
+-- Each exported promise has one answer: two numbers, states, fields and RAMs that both meet it are equal. The promises are the contracts as they are generated
+-- from the source. Assumes nothing.
+use mathlib.Core.Path.{_≡_, _∙_, sym}
+use denote.Ref.{now}
+use Rattle.exports.proofs.biekkarul_header.Reads as header
+use Rattle.exports.proofs.biekkarul_load.Reads as load
+use Rattle.exports.proofs.biekkarul_read.Reads as read
+use Rattle.exports.proofs.biekkarul_write.Reads as write
+use Rattle.exports.proofs.biekkarul_clock.Reads as clock
+
+module _ (κs : _) (a : _) (r r′ : _) (s s′ : _) (p : header.Post κs a r s) (q : header.Post κs a r′ s′) where
+  pub header-reply : r ≡ r′
+  header-reply = p .reply ∙ sym (q .reply)
+
+  pub header-fields : now (s .1 .0) ≡ now (s′ .1 .0)
+  header-fields = p .fields ∙ sym (q .fields)
+
+module _ (κs : _) (a : _) (r r′ : _) (s s′ : _) (p : load.Post κs a r s) (q : load.Post κs a r′ s′) where
+  pub load-reply : r ≡ r′
+  load-reply = p .reply ∙ sym (q .reply)
+
+  pub load-state : now (s .1 .1 .0) ≡ now (s′ .1 .1 .0)
+  load-state = p .state ∙ rw (load-reply) (sym (q .state))
+
+  pub load-prg : now (s .1 .1 .1 .0) ≡ now (s′ .1 .1 .1 .0)
+  load-prg = p .prg-ram ∙ sym (q .prg-ram)
+
+  pub load-chr : now (s .1 .1 .1 .1 .0) ≡ now (s′ .1 .1 .1 .1 .0)
+  load-chr = p .chr-ram ∙ sym (q .chr-ram)
+
+module _ (κs : _) (a : _) (r r′ : _) (s s′ : _) (p : read.Post κs a r s) (q : read.Post κs a r′ s′) where
+  pub read-reply : r ≡ r′
+  read-reply = p ∙ sym q
+
+module _ (κs : _) (a : _) (r r′ : _) (s s′ : _) (p : write.Post κs a r s) (q : write.Post κs a r′ s′) where
+  pub write-reply : r ≡ r′
+  write-reply = p .reply ∙ sym (q .reply)
+
+  pub write-state : now (s .0) ≡ now (s′ .0)
+  write-state = p .state ∙ rw (write-reply) (sym (q .state))
+
+  pub write-prg : now (s .1 .1 .0) ≡ now (s′ .1 .1 .0)
+  write-prg = p .prg-ram ∙ sym (q .prg-ram)
+
+  pub write-chr : now (s .1 .1 .1 .0) ≡ now (s′ .1 .1 .1 .0)
+  write-chr = p .chr-ram ∙ sym (q .chr-ram)
+
+module _ (κs : _) (a : _) (r r′ : _) (s s′ : _) (p : clock.Post κs a r s) (q : clock.Post κs a r′ s′) where
+  pub clock-reply : r ≡ r′
+  clock-reply = p .reply ∙ sym (q .reply)
+
+  pub clock-state : now (s .0) ≡ now (s′ .0)
+  clock-state = p .state ∙ rw (clock-reply) (sym (q .state))

@@ -1,0 +1,2 @@
+mod Typed
+pub mod Runs
