@@ -52,8 +52,8 @@ extern "C" {
 #define BIEKKARUL_STATE_OUT_OF_RANGE 10     /* a state that no board could have; see each function */
 #define BIEKKARUL_BANK_PAST_DATA 11         /* house read: the bank ends past the PRG or CHR data */
 #define BIEKKARUL_NO_CHR_RAM 12             /* house write: NROM, MMC1, UxROM, 0000-1FFF, CHR ROM */
-#define BIEKKARUL_NO_SUCH_PLACE 13          /* house CNROM: 2000-7FFF; or 8000-BFFF with PRG 1 */
-#define BIEKKARUL_IRQ_PENDING 14            /* house MMC3: even write to E000-FFFF, counter 0 or 1 */
+#define BIEKKARUL_NO_SUCH_PLACE 13          /* house CNROM: 2000-7FFF; or a read of 8000-BFFF with PRG 1 */
+#define BIEKKARUL_IRQ_PENDING 14            /* house MMC3: even write, E000-FFFF, IRQ enabled, counter 0 or 1 */
 
 /*
  * Reads the header: bytes 4 to 15 of the image go to fields as they stand.

@@ -1,5 +1,5 @@
 #!/usr/bin/env bash
-# docs/PROMISES.md is true of the tree: every definition, theorem and must-fail edit that it names is there.
+# docs/PROMISES.md is true of the tree: every file, definition, theorem and must-fail edit that it names is there.
 set -uo pipefail
 cd "$(dirname "${BASH_SOURCE[0]}")/.." || exit 2
 page=docs/PROMISES.md
@@ -8,21 +8,40 @@ lost=0
 
 missing() { echo "$page names $1, which is not there"; lost=$((lost + 1)); }
 
-# `crate specs/File.antt name, name` and `crate/proofs/File.antt name, name`
-while IFS= read -r cell; do
-  [[ $cell =~ ^([a-z0-9_]+)[\ /](specs|proofs)/([A-Za-z0-9]+\.antt)\ (.*)$ ]] || continue
-  file=crates/${BASH_REMATCH[1]}/${BASH_REMATCH[2]}/${BASH_REMATCH[3]}
-  names=${BASH_REMATCH[4]}
-  [ -f "$file" ] || { missing "$file"; continue; }
-  for name in ${names//,/ }; do
+# declares FILE NAME: a line of the file declares the name for others, with its type or as a record or a data type.
+declares() {
+  local name=${2//[+*.]/\\&}
+  grep -qE "^ *((unfoldable|abbrev) )?pub ((record|data) $name( |\$)|$name :( |\$))" "$1"
+}
+
+# In a row, `crate specs/File.antt name, name` or `crate/proofs/File.antt name, name`; after one of these also
+# `specs/File.antt name` of the same crate and `File.antt name` of the same folder. Names may be left out.
+while IFS= read -r row; do
+  crate=
+  folder=
+  while IFS= read -r cell; do
+    [[ $cell == *.antt* ]] || continue
+    if [[ ! $cell =~ ^((([a-z0-9_]+)[\ /])?(specs|proofs)/)?([A-Za-z0-9]+\.antt)(\ (.+))?$ ]]; then
+      echo "$page has \`$cell\`, which cannot be read"
+      lost=$((lost + 1))
+      continue
+    fi
+    names=${BASH_REMATCH[7]}
+    crate=${BASH_REMATCH[3]:-$crate}
+    folder=${BASH_REMATCH[4]:-$folder}
+    file=crates/$crate/$folder/${BASH_REMATCH[5]}
     seen=$((seen + 1))
-    grep -qE "(^|[ (])${name//+/\\+}( |$)" "$file" || missing "$name in $file"
-  done
-done < <(grep -o '`[^`]*`' "$page" | tr -d '\140')
+    [ -f "$file" ] || { missing "$file (in \`$cell\`)"; continue; }
+    for name in ${names//,/ }; do
+      seen=$((seen + 1))
+      declares "$file" "$name" || missing "$name in $file"
+    done
+  done < <(grep -o '`[^`]*`' <<<"$row" | tr -d '\140')
+done < <(grep '`[^`]*\.antt' "$page")
 
 # `crate/label` of a must-fail edit
 while IFS= read -r label; do
-  [ -d "crates/${label%%/*}/src" ] || continue
+  [ "$label" != crate/label ] || continue # the page's own word for one
   seen=$((seen + 1))
   [ -f "crates/${label%%/*}/must-fail/${label#*/}.edit" ] || missing "the edit $label"
 done < <(grep -oE '`[a-z0-9_]+/[a-z0-9_]+`' "$page" | tr -d '\140')

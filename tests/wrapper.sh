@@ -97,8 +97,14 @@ tests_run_rt() { # tests_run_rt COUNT: the same for the library that the tests t
     [ "$(grep -cxF "staticlib exports" "$work/runs")" -eq "$1" ]
 }
 
+change_a_source() { # by more than the grain of a file's time
+  touch -d "1 minute ago" "$repository/target/staticlib/libexports.a"
+  touch "$repository/crates/changed"
+}
+
 says_that_rt_failed() {
-  touch "$work/broken" "$repository/crates/changed"
+  touch "$work/broken"
+  change_a_source
   ! build_there 2>"$work/err"
   cat "$work/err"
   grep -qF "'rt staticlib exports' made no" "$work/err"
@@ -143,10 +149,10 @@ step "a folder without the library" build_without
 make_repository
 step "rt makes the library" runs_rt 1
 step "a library newer than its sources is not made again" runs_rt 1 --release
-touch "$repository/crates/changed"
+change_a_source
 step "a library older than its sources is made again" runs_rt 2
 step "the tests take a library newer than its sources" tests_run_rt 2
-touch "$repository/crates/changed"
+change_a_source
 step "the tests make an older one again" tests_run_rt 3
 step "a failing rt" says_that_rt_failed
 

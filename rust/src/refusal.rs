@@ -38,7 +38,8 @@ pub enum Refusal {
     CountNoPowerOfTwo = 8,
     /// Load, read, write: a RAM is not exactly 8,192 bytes.
     RamNot8K = 9,
-    /// Read, write, clock: the state is none that a board could have, or the image is another one.
+    /// Read, write, clock: the state is none that a board could have. Read, write: or the image has
+    /// another length than the one loaded. Restore: or the state is another cartridge's.
     StateOutOfRange = 10,
     /// House read: the bank ends past the data.
     BankPastData = 11,
@@ -119,7 +120,7 @@ impl Refusal {
             Refusal::CountNoPowerOfTwo => "a block count is no power of two",
             Refusal::RamNot8K => "a RAM is not exactly 8,192 bytes",
             Refusal::StateOutOfRange => {
-                "the state is none that a board could have, or the image is not the one loaded"
+                "the state is none that this board could have, or the image has another length than the one loaded"
             }
             Refusal::BankPastData => "the bank this read uses ends past the PRG or CHR data",
             Refusal::NoChrRam => "there is no CHR RAM to write to",
