@@ -1,3 +1,4 @@
+pub mod Put
 pub mod Joined
 pub mod RoundTrip
 pub mod AsBoards

@@ -1,9 +1,9 @@
 -- The steps of the code, board by board, over words; the calls' promises don't cite them.
-use Prim.Native.Nat.{ℕ}
+use Prim.Native.Nat.{ℕ, _+_}
 use mathlib.Core.Path.{_≡_}
 use mathlib.Core.Bool.{Bool, cond}
-use mathlib.Core.List.{List}
-use lib.ListN.{length}
+use mathlib.Core.List.{List, _++_}
+use lib.ListN.{length, take, drop}
 use Rattle.cartridge.specs.declared.Cartridge.{Cartridge}
 use Rattle.cartridge.specs.declared.HeaderAnswer.{HeaderAnswer}
 use Rattle.cartridge.specs.declared.MapperType.{MapperType}
@@ -24,8 +24,14 @@ use Rattle.states.specs.Words.{boardAs, wordsOf}
 use Rattle.states.specs.Kept.{isKept}
 use Rattle.states.specs.declared.Words.{Words}
 use Rattle.exports.specs.Numbers.{refused, readNumber, writeNumber, clockNumber, loadNumber, headerNumber, fieldsAfter}
+use Rattle.exports.specs.Bytes.{bytesOfWord}
 use Rattle.exports.specs.Calls.{isKeptFor}
+use Rattle.exports.specs.declared.Due.{Due}
 use Rattle.exports.specs.declared.Moved.{Moved}
+
+-- the bytes with a word put over them at a place
+unfoldable pub wordPut : List ℕ → ℕ → ℕ → List ℕ
+wordPut s i w = take i s ++ (bytesOfWord w ++ drop (i + 8) s)
 
 -- the place, unless the words are no board's or the image is another
 unfoldable pub keptPlace : Bool → Place → Place
@@ -59,7 +65,12 @@ unlessRefused Zero b w = w
 unfoldable pub movedBy : Written → Moved
 movedBy w = record { answer = writeNumber (w .answer); words = wordsOf (w .board) }
 
--- a write to the words of one mapper
+-- a write to the words of one mapper, before its byte is stored
+unfoldable pub dueOn : MapperType → Words → ℕ → ℕ → ℕ → Due
+dueOn m w image a v =
+    record { place = landingOn m w image a; written = writtenAs (boardAs m w) (landingOn m w image a) v a }
+
+-- and all of it
 pub record OnWords (m : MapperType) (w : Words) (image : ℕ) (prg chr : List ℕ) (a v : ℕ) (r : Moved) (prg′ chr′ : List ℕ) : Type 0 where
   pub reply : r ≡ movedBy (writtenAs (boardAs m w) (landingOn m w image a) v a)
   pub prg-ram : prg′ ≡ storedPrg (landingOn m w image a) v prg

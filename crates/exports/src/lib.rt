@@ -3,11 +3,13 @@ ghost use mathlib.Core.Path.{_≡_};
 ghost use Prim.Native.Nat.{_+_, _<_, _≤_};
 ghost use lib.ListN.{length};
 ghost use Rattle.cartridge.specs.declared.MapperType.the-variants.{Nrom as OnNrom, Mmc1 as OnMmc1, Uxrom as OnUxrom, Cnrom as OnCnrom, Mmc3 as OnMmc3};
+ghost use Rattle.boards.specs.Clock.{unmoved};
+ghost use Rattle.boards.specs.declared.ClockAnswer.the-variants.{No};
 ghost use Rattle.states.specs.Kept.{mapperIn};
 ghost use Rattle.exports.specs.Numbers.{refused, readNumber, writeNumber, clockNumber, loadNumber, fieldsOf};
-ghost use Rattle.exports.specs.Bytes.{word, wordAt, wordsIn, digit, bytesOf, kept};
+ghost use Rattle.exports.specs.Bytes.{word, wordAt, wordsIn, digit, bytesOfWord, kept};
 ghost use Rattle.exports.specs.Calls.{readBytes, WriteOwes, ClockOwes, LoadOwes, HeaderOwes};
-ghost use Rattle.exports.specs.Steps.{keptPlace, readAt, readOn, unlessRefused, movedBy, OnWords, clockedAs, clockMoved, clockOn, loadMoved, FieldsPut};
+ghost use Rattle.exports.specs.Steps.{wordPut, keptPlace, readAt, readOn, unlessRefused, movedBy, dueOn, OnWords, clockedAs, clockMoved, clockOn, loadMoved, FieldsPut};
 use boards::Board;
 use boards::ClockAnswer;
 use boards::Clocked;
@@ -119,57 +121,28 @@ fn digit(w: u64, unit: u64) -> u8
     (w / unit % 0x100) as u8
 }
 
-// The words as bytes, the least byte of each word first.
-fn bytes_of(w: Words) -> [u8; 40]
-    ensures { λ r. ⌜ r ≡ bytesOf w ⌝ }
+// The bytes of a word, the least first.
+fn bytes_of_word(w: u64) -> [u8; 8]
+    ensures { λ r. ⌜ r ≡ bytesOfWord w ⌝ }
 {
-    let c = w.cart;
-    let n = w.length;
-    let b = w.banks;
-    let r = w.regs;
-    let q = w.irq;
     [
-        digit(c, 1),
-        digit(c, 0x100),
-        digit(c, 0x1_0000),
-        digit(c, 0x100_0000),
-        digit(c, 0x1_0000_0000),
-        digit(c, 0x100_0000_0000),
-        digit(c, 0x1_0000_0000_0000),
-        digit(c, 0x100_0000_0000_0000),
-        digit(n, 1),
-        digit(n, 0x100),
-        digit(n, 0x1_0000),
-        digit(n, 0x100_0000),
-        digit(n, 0x1_0000_0000),
-        digit(n, 0x100_0000_0000),
-        digit(n, 0x1_0000_0000_0000),
-        digit(n, 0x100_0000_0000_0000),
-        digit(b, 1),
-        digit(b, 0x100),
-        digit(b, 0x1_0000),
-        digit(b, 0x100_0000),
-        digit(b, 0x1_0000_0000),
-        digit(b, 0x100_0000_0000),
-        digit(b, 0x1_0000_0000_0000),
-        digit(b, 0x100_0000_0000_0000),
-        digit(r, 1),
-        digit(r, 0x100),
-        digit(r, 0x1_0000),
-        digit(r, 0x100_0000),
-        digit(r, 0x1_0000_0000),
-        digit(r, 0x100_0000_0000),
-        digit(r, 0x1_0000_0000_0000),
-        digit(r, 0x100_0000_0000_0000),
-        digit(q, 1),
-        digit(q, 0x100),
-        digit(q, 0x1_0000),
-        digit(q, 0x100_0000),
-        digit(q, 0x1_0000_0000),
-        digit(q, 0x100_0000_0000),
-        digit(q, 0x1_0000_0000_0000),
-        digit(q, 0x100_0000_0000_0000),
+        digit(w, 1),
+        digit(w, 0x100),
+        digit(w, 0x1_0000),
+        digit(w, 0x100_0000),
+        digit(w, 0x1_0000_0000),
+        digit(w, 0x100_0000_0000),
+        digit(w, 0x1_0000_0000_0000),
+        digit(w, 0x100_0000_0000_0000),
     ]
+}
+
+fn put_word(s: &mut [u8], at: usize, w: u64)
+    requires { ⌜ at + 8 ≤ length (now s) ⌝ }
+    ensures { λ _. ⌜ now (s .exit) ≡ wordPut (now (s .entry)) at w ⌝ }
+{
+    let end = at + 8;
+    memory::copy(&mut s[at..end], &bytes_of_word(w));
 }
 
 // What a call of the board gives: the answer's number, and the next state in words.
@@ -185,7 +158,11 @@ fn keep(state: &mut [u8], moved: Moved)
 {
     if moved.answer < 256 {
         let words = moved.words;
-        memory::copy(state, &bytes_of(words));
+        put_word(state, 0, words.cart);
+        put_word(state, 8, words.length);
+        put_word(state, 16, words.banks);
+        put_word(state, 24, words.regs);
+        put_word(state, 32, words.irq);
     }
 }
 
@@ -326,6 +303,98 @@ fn unless_refused(place: Place, board: Board, written: Written) -> Written
     }
 }
 
+// A write before its byte is stored: where that goes, and what the call leaves and answers.
+pub struct Due {
+    pub place: Place,
+    pub written: Written,
+}
+
+fn nrom_due(w: Words, image: usize, address: u16, value: u8) -> Due
+    ensures { λ r. ⌜ r ≡ dueOn OnNrom w image address value ⌝ }
+{
+    let board = w.nrom_board();
+    let cart = board.cart;
+    let fits = w.nrom_fits() & (image == (w.length as usize));
+    let place = kept_place(fits, nrom::write_place(cart, address));
+    Due {
+        place,
+        written: unless_refused(place, board, board.quiet()),
+    }
+}
+
+fn mmc1_due(w: Words, image: usize, address: u16, value: u8) -> Due
+    ensures { λ r. ⌜ r ≡ dueOn OnMmc1 w image address value ⌝ }
+{
+    let board = w.mmc1_board();
+    let cart = board.cart;
+    let mmc1 = board.mmc1;
+    let fits = w.mmc1_fits() & (image == (w.length as usize));
+    let place = kept_place(fits, mmc1.write_place(cart, address));
+    Due {
+        place,
+        written: unless_refused(place, board, board.mmc1_written(value, address)),
+    }
+}
+
+fn uxrom_due(w: Words, image: usize, address: u16, value: u8) -> Due
+    ensures { λ r. ⌜ r ≡ dueOn OnUxrom w image address value ⌝ }
+{
+    let board = w.uxrom_board();
+    let cart = board.cart;
+    let uxrom = board.uxrom;
+    let fits = w.uxrom_fits() & (image == (w.length as usize));
+    let place = kept_place(fits, uxrom.write_place(cart, address));
+    Due {
+        place,
+        written: unless_refused(place, board, board.uxrom_written(value, address)),
+    }
+}
+
+fn cnrom_due(w: Words, image: usize, address: u16, value: u8) -> Due
+    ensures { λ r. ⌜ r ≡ dueOn OnCnrom w image address value ⌝ }
+{
+    let board = w.cnrom_board();
+    let cart = board.cart;
+    let cnrom = board.cnrom;
+    let fits = w.cnrom_fits() & (image == (w.length as usize));
+    let place = kept_place(fits, cnrom.write_place(cart, address));
+    Due {
+        place,
+        written: unless_refused(place, board, board.cnrom_written(value, address)),
+    }
+}
+
+fn mmc3_due(w: Words, image: usize, address: u16, value: u8) -> Due
+    ensures { λ r. ⌜ r ≡ dueOn OnMmc3 w image address value ⌝ }
+{
+    let board = w.mmc3_board();
+    let cart = board.cart;
+    let mmc3 = board.mmc3;
+    let fits = w.mmc3_fits() & (image == (w.length as usize));
+    let place = kept_place(fits, mmc3.write_place(cart, address));
+    Due {
+        place,
+        written: unless_refused(place, board, board.mmc3_written(value, address)),
+    }
+}
+
+fn due_in(w: Words, image: usize, address: u16, value: u8) -> Due
+    ensures { λ r. ⌜ r ≡ dueOn (mapperIn w) w image address value ⌝ }
+{
+    let mapper = w.cart / 4 % 16;
+    if mapper == 0 {
+        nrom_due(w, image, address, value)
+    } else if mapper == 1 {
+        mmc1_due(w, image, address, value)
+    } else if mapper == 2 {
+        uxrom_due(w, image, address, value)
+    } else if mapper == 3 {
+        cnrom_due(w, image, address, value)
+    } else {
+        mmc3_due(w, image, address, value)
+    }
+}
+
 fn moved_by(written: Written) -> Moved
     ensures { λ r. ⌜ r ≡ movedBy written ⌝ }
 {
@@ -335,100 +404,6 @@ fn moved_by(written: Written) -> Moved
         answer: write_number(answer),
         words: states::words_of(board),
     }
-}
-
-fn nrom_write(
-    w: Words,
-    image: usize,
-    prg: &mut [u8],
-    chr: &mut [u8],
-    address: u16,
-    value: u8,
-) -> Moved
-    ensures { λ r. ⌜ OnWords OnNrom w image (now (prg .entry)) (now (chr .entry)) address value r (now (prg .exit)) (now (chr .exit)) ⌝ }
-{
-    let board = w.nrom_board();
-    let cart = board.cart;
-    let fits = w.nrom_fits() & (image == (w.length as usize));
-    let place = kept_place(fits, nrom::write_place(cart, address));
-    places::store(place, prg, chr, value);
-    moved_by(unless_refused(place, board, board.quiet()))
-}
-
-fn mmc1_write(
-    w: Words,
-    image: usize,
-    prg: &mut [u8],
-    chr: &mut [u8],
-    address: u16,
-    value: u8,
-) -> Moved
-    ensures { λ r. ⌜ OnWords OnMmc1 w image (now (prg .entry)) (now (chr .entry)) address value r (now (prg .exit)) (now (chr .exit)) ⌝ }
-{
-    let board = w.mmc1_board();
-    let cart = board.cart;
-    let mmc1 = board.mmc1;
-    let fits = w.mmc1_fits() & (image == (w.length as usize));
-    let place = kept_place(fits, mmc1.write_place(cart, address));
-    places::store(place, prg, chr, value);
-    moved_by(unless_refused(place, board, board.mmc1_written(value, address)))
-}
-
-fn uxrom_write(
-    w: Words,
-    image: usize,
-    prg: &mut [u8],
-    chr: &mut [u8],
-    address: u16,
-    value: u8,
-) -> Moved
-    ensures { λ r. ⌜ OnWords OnUxrom w image (now (prg .entry)) (now (chr .entry)) address value r (now (prg .exit)) (now (chr .exit)) ⌝ }
-{
-    let board = w.uxrom_board();
-    let cart = board.cart;
-    let uxrom = board.uxrom;
-    let fits = w.uxrom_fits() & (image == (w.length as usize));
-    let place = kept_place(fits, uxrom.write_place(cart, address));
-    places::store(place, prg, chr, value);
-    moved_by(unless_refused(place, board, board.uxrom_written(value, address)))
-}
-
-fn cnrom_write(
-    w: Words,
-    image: usize,
-    prg: &mut [u8],
-    chr: &mut [u8],
-    address: u16,
-    value: u8,
-) -> Moved
-    ensures { λ r. ⌜ OnWords OnCnrom w image (now (prg .entry)) (now (chr .entry)) address value r (now (prg .exit)) (now (chr .exit)) ⌝ }
-{
-    let board = w.cnrom_board();
-    let cart = board.cart;
-    let cnrom = board.cnrom;
-    let fits = w.cnrom_fits() & (image == (w.length as usize));
-    let place = kept_place(fits, cnrom.write_place(cart, address));
-    places::store(place, prg, chr, value);
-    moved_by(unless_refused(place, board, board.cnrom_written(value, address)))
-}
-
-fn mmc3_write(
-    w: Words,
-    image: usize,
-    prg: &mut [u8],
-    chr: &mut [u8],
-    address: u16,
-    value: u8,
-) -> Moved
-    ensures { λ r. ⌜ OnWords OnMmc3 w image (now (prg .entry)) (now (chr .entry)) address value r (now (prg .exit)) (now (chr .exit)) ⌝ }
-{
-    let board = w.mmc3_board();
-    let cart = board.cart;
-    let mmc3 = board.mmc3;
-    let fits = w.mmc3_fits() & (image == (w.length as usize));
-    let place = kept_place(fits, mmc3.write_place(cart, address));
-    places::store(place, prg, chr, value);
-    moved_by(unless_refused(place, board, board.mmc3_written(value, address)))
 }
 
 fn write_in(
@@ -441,18 +416,10 @@ fn write_in(
 ) -> Moved
     ensures { λ r. ⌜ OnWords (mapperIn w) w image (now (prg .entry)) (now (chr .entry)) address value r (now (prg .exit)) (now (chr .exit)) ⌝ }
 {
-    let mapper = w.cart / 4 % 16;
-    if mapper == 0 {
-        nrom_write(w, image, prg, chr, address, value)
-    } else if mapper == 1 {
-        mmc1_write(w, image, prg, chr, address, value)
-    } else if mapper == 2 {
-        uxrom_write(w, image, prg, chr, address, value)
-    } else if mapper == 3 {
-        cnrom_write(w, image, prg, chr, address, value)
-    } else {
-        mmc3_write(w, image, prg, chr, address, value)
-    }
+    let due = due_in(w, image, address, value);
+    let place = due.place;
+    places::store(place, prg, chr, value);
+    moved_by(due.written)
 }
 
 #[no_mangle]
@@ -500,32 +467,11 @@ fn clock_moved(clocked: Clocked) -> Moved
     }
 }
 
-fn nrom_clock(w: Words) -> Moved
-    ensures { λ r. ⌜ r ≡ clockOn OnNrom w ⌝ }
+// On all boards but MMC3 nothing moves.
+fn idle(fits: bool, board: Board) -> Moved
+    ensures { λ r. ⌜ r ≡ clockMoved (clockedAs fits board (unmoved board No)) ⌝ }
 {
-    let board = w.nrom_board();
-    clock_moved(clocked_as(w.nrom_fits(), board, board.unmoved(ClockAnswer::No)))
-}
-
-fn mmc1_clock(w: Words) -> Moved
-    ensures { λ r. ⌜ r ≡ clockOn OnMmc1 w ⌝ }
-{
-    let board = w.mmc1_board();
-    clock_moved(clocked_as(w.mmc1_fits(), board, board.unmoved(ClockAnswer::No)))
-}
-
-fn uxrom_clock(w: Words) -> Moved
-    ensures { λ r. ⌜ r ≡ clockOn OnUxrom w ⌝ }
-{
-    let board = w.uxrom_board();
-    clock_moved(clocked_as(w.uxrom_fits(), board, board.unmoved(ClockAnswer::No)))
-}
-
-fn cnrom_clock(w: Words) -> Moved
-    ensures { λ r. ⌜ r ≡ clockOn OnCnrom w ⌝ }
-{
-    let board = w.cnrom_board();
-    clock_moved(clocked_as(w.cnrom_fits(), board, board.unmoved(ClockAnswer::No)))
+    clock_moved(clocked_as(fits, board, board.unmoved(ClockAnswer::No)))
 }
 
 fn mmc3_clock(w: Words) -> Moved
@@ -540,13 +486,13 @@ fn clock_in(w: Words) -> Moved
 {
     let mapper = w.cart / 4 % 16;
     if mapper == 0 {
-        nrom_clock(w)
+        idle(w.nrom_fits(), w.nrom_board())
     } else if mapper == 1 {
-        mmc1_clock(w)
+        idle(w.mmc1_fits(), w.mmc1_board())
     } else if mapper == 2 {
-        uxrom_clock(w)
+        idle(w.uxrom_fits(), w.uxrom_board())
     } else if mapper == 3 {
-        cnrom_clock(w)
+        idle(w.cnrom_fits(), w.cnrom_board())
     } else {
         mmc3_clock(w)
     }

@@ -1,11 +1,11 @@
--- Each test of the mapper's digit decides which mapper it is. Assumes nothing.
+-- What is due is stored and answered. Assumes nothing.
 use Rattle.rules.proofs.Picks.{picks}
-use Rattle.states.specs.Kept.{mapperIn}
+use Rattle.exports.specs.Steps.{dueOn}
 use Rattle.exports.proofs.write_in.Statement.{statement}
 use Rattle.exports.proofs.write_in.Tie as tie
 
 pub write-in-spec : {M : Type 1} → statement M
-unfolding mapperIn
+unfolding dueOn
 write-in-spec =
     tie.close
     (tie.spec
@@ -14,18 +14,4 @@ write-in-spec =
     (λ c. search picks)
     (λ c. search picks)
     (λ c. search picks)
-    (λ c. search picks)
-    (λ c. search picks)
-    (λ c. search (picks, c .before .before .before .before .nrom-write .ensures))
-    (λ c. search picks)
-    (λ c. search picks)
-    (λ c. search (picks, c .before .before .before .before .mmc1-write .ensures))
-    (λ c. search picks)
-    (λ c. search picks)
-    (λ c. search (picks, c .before .before .before .before .uxrom-write .ensures))
-    (λ c. search picks)
-    (λ c. search picks)
-    (λ c. search (picks, c .before .before .before .before .cnrom-write .ensures))
-    (λ c. search picks)
-    (λ c. search picks)
-    (λ c. search (picks, c .before .before .before .before .mmc3-write .ensures)))
+    (λ c. record { reply = simp (c .moved-by .ensures, c .before .before .before .before .before .before .before .before .due-in .ensures); prg-ram = simp (c .before .before .before .before .before .store .ensures .prg-ram, c .before .before .before .before .before .before .before .before .due-in .ensures); chr-ram = simp (c .before .before .before .before .before .store .ensures .chr-ram, c .before .before .before .before .before .before .before .before .due-in .ensures) }))

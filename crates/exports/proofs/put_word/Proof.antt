@@ -1,0 +1,20 @@
+-- A copy of eight bytes over eight. Assumes nothing.
+use Rattle.rules.proofs.Picks.{picks}
+use Rattle.exports.proofs.Put.{put-over}
+use native.Mathlib.Nat.{add-sub-cancel-left}
+use Rattle.exports.proofs.put_word.Statement.{statement}
+use Rattle.exports.proofs.put_word.Tie as tie
+
+pub put-word-spec : {M : Type 1} → statement M
+put-word-spec =
+    tie.close
+    (tie.spec
+    (λ c. search picks)
+    (λ c. search picks)
+    (λ c. search picks)
+    (λ c. search picks)
+    (λ c. search picks)
+    (λ c. search picks)
+    (λ c. search picks)
+    (λ c. search picks)
+    (λ c. let x = c .before .before .before .before .before .before .before in simp (c .before .before .copy .ensures, c .before .before .before .before .bytes-of-word .ensures, add-sub-cancel-left) (put-over (x .args .at) (x .args .s .now) (x .args .w) (x .pre))))
