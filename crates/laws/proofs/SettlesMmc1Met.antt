@@ -11,6 +11,7 @@ use Rattle.cartridge.specs.declared.MapperType.the-variants.{Mmc1}
 use Rattle.cartridge.specs.declared.Mirroring.{Mirroring}
 use Rattle.cartridge.specs.declared.Mirroring.the-variants.{Vertical, SingleScreenUpper}
 use Rattle.cartridge.specs.declared.Refusal.the-variants.{BankPastData}
+use Rattle.mmc1.specs.declared.Register.the-variants.{Control, Chr0, Chr1, Prg}
 use Rattle.places.specs.declared.ReadAnswer.the-variants.{Byte, Refused}
 use Rattle.boards.specs.Write.{withMmc1, withMirroring}
 use Rattle.boards.specs.Runs.{Lent, Call, Answer, after, answers}
@@ -19,7 +20,8 @@ use Rattle.boards.specs.Runs.Answer.{toRead}
 use Rattle.boards.specs.declared.Board.{Board}
 use Rattle.laws.specs.Calls.{History, reached, OneImage, Write, SameCalls}
 use Rattle.laws.specs.PLines.{mmc1 as mmc1-image, ram, loadOf}
-use Rattle.laws.specs.SettlesMmc1.{Clears, cleared, Settled, Agree}
+use Rattle.laws.specs.Loads.Done.{load}
+use Rattle.laws.specs.SettlesMmc1.{Clears, cleared, doneAt, bit4At, Settled, Agree}
 use Rattle.laws.proofs.Histories.{any-two-histories}
 use Rattle.laws.proofs.SettlesMmc1.{mmc1-settles}
 use Rattle.laws.proofs.Opened.{opened}
@@ -93,39 +95,27 @@ met-histories mode = any-two-histories mode mmc1-image (omega arith) (omega arit
 pub met-calls : SameCalls (calls lent) (calls others)
 met-calls = refl
 
-abbrev Met : Mode → Type 0
-Met mode = Settled (cleared (bit7 lent) (fresh mode)) (calls lent)
+-- a run with its control load at call 12, CHR 0 at 22, CHR 1 at 17 and PRG at 7
+loads-at : {b : Board} {cs : List Call} → doneAt b cs 12 ≡ load Control 16 → doneAt b cs 22 ≡ load Chr0 5 → doneAt b cs 17 ≡ load Chr1 6 → doneAt b cs 7 ≡ load Prg 7 → bit4At b cs 17 ≡ 1 → Settled b cs
+loads-at control chr0 chr1 prg bit4 =
+    record {
+      control = 12;
+      chr0 = 22;
+      chr1 = 17;
+      prg = 7;
+      control-load = record { bits = 16; done = control };
+      chr0-load = record { bits = 5; done = chr0 };
+      chr1-load = record { bits = 6; done = chr1 };
+      prg-load = record { bits = 7; done = prg };
+      chr0-after-it = omega arith;
+      chr1-after-it = omega arith;
+      while-bit-4-is-set = bit4;
+    }
 
-pub met-settled : (mode : Mode) → Met mode
+pub met-settled : (mode : Mode) → Settled (cleared (bit7 lent) (fresh mode)) (calls lent)
 unfolding opened
-met-settled House =
-    record {
-      control = 12;
-      chr0 = 22;
-      chr1 = 17;
-      prg = 7;
-      control-load = record { bits = 16; done = refl };
-      chr0-load = record { bits = 5; done = refl };
-      chr1-load = record { bits = 6; done = refl };
-      prg-load = record { bits = 7; done = refl };
-      chr0-after-it = omega arith;
-      chr1-after-it = omega arith;
-      while-bit-4-is-set = refl;
-    }
-met-settled OnBoard =
-    record {
-      control = 12;
-      chr0 = 22;
-      chr1 = 17;
-      prg = 7;
-      control-load = record { bits = 16; done = refl };
-      chr0-load = record { bits = 5; done = refl };
-      chr1-load = record { bits = 6; done = refl };
-      prg-load = record { bits = 7; done = refl };
-      chr0-after-it = omega arith;
-      chr1-after-it = omega arith;
-      while-bit-4-is-set = refl;
-    }
+met-settled House = loads-at refl refl refl refl refl
+met-settled OnBoard = loads-at refl refl refl refl refl
 
 -- so the two agree
 pub met : (mode : Mode) → Agree (after (cleared (bit7 lent) (fresh mode)) (calls lent)) (after (cleared (bit7 others) (used mode)) (calls others))

@@ -192,59 +192,29 @@ cnrom-bank-is b u c m = ap (λ (x : ℕ). x / 0x100 % 4) (banks-of-cnrom b u m) 
     low : (n : ℕ) → n < 4 → n * 0x100 / 0x100 % 4 ≡ n
     low n h = omega arith
 
+-- a board is its parts
+of-parts : {b d : Board} → d .cart ≡ b .cart → d .mirroring ≡ b .mirroring → d .uxrom ≡ b .uxrom → d .cnrom ≡ b .cnrom → d .mmc1 ≡ b .mmc1 → d .mmc3 ≡ b .mmc3 → d ≡ b
+of-parts c m u n o t = λ i. record { cart = c i; mirroring = m i; uxrom = u i; cnrom = n i; mmc1 = o i; mmc3 = t i }
+
 -- the board of a mapper that the words hold is the board they are made of
 board-as : (b : Board) → OfItsTypes b → couldLoad (b .cart) ≡ true → (k : MapperType) → b .cart .mapper ≡ k → registersIn k b ≡ true → boardAs k (wordsOf b) ≡ b
 unfolding boardAs registersIn
 board-as b t l Nrom e h =
     let p = split-4 (uxrom.isStart (b .uxrom)) (cnrom.isStart (b .cnrom)) (mmc1.isUnused (b .mmc1)) (mmc3.isStart (b .mmc3)) h in
-    λ i. record {
-      cart = cart-is b l Nrom e i;
-      mirroring = screens-is b l i;
-      uxrom = sym (uxrom-start (b .uxrom) (p .0)) i;
-      cnrom = sym (cnrom-start (b .cnrom) (p .1)) i;
-      mmc1 = sym (mmc1-unused (b .mmc1) (p .2)) i;
-      mmc3 = sym (mmc3-start (b .mmc3) (t .eight) (p .3)) i;
-    }
+    of-parts (cart-is b l Nrom e) (screens-is b l) (sym (uxrom-start (b .uxrom) (p .0))) (sym (cnrom-start (b .cnrom) (p .1))) (sym (mmc1-unused (b .mmc1) (p .2))) (sym (mmc3-start (b .mmc3) (t .eight) (p .3)))
 board-as b t l Mmc1 e h =
     let p = split-4 (uxrom.isStart (b .uxrom)) (cnrom.isStart (b .cnrom)) (mmc1.fits (b .mmc1)) (mmc3.isStart (b .mmc3)) h in
-    λ i. record {
-      cart = cart-is b l Mmc1 e i;
-      mirroring = screens-is b l i;
-      uxrom = sym (uxrom-start (b .uxrom) (p .0)) i;
-      cnrom = sym (cnrom-start (b .cnrom) (p .1)) i;
-      mmc1 = mmc1-is (wordsOf b) (b .mmc1) (p .2) (banks-of-mmc1 b (p .0) (p .1)) i;
-      mmc3 = sym (mmc3-start (b .mmc3) (t .eight) (p .3)) i;
-    }
+    of-parts (cart-is b l Mmc1 e) (screens-is b l) (sym (uxrom-start (b .uxrom) (p .0))) (sym (cnrom-start (b .cnrom) (p .1)))
+    (mmc1-is (wordsOf b) (b .mmc1) (p .2) (banks-of-mmc1 b (p .0) (p .1))) (sym (mmc3-start (b .mmc3) (t .eight) (p .3)))
 board-as b t l Uxrom e h =
     let p = split-3 (cnrom.isStart (b .cnrom)) (mmc1.isUnused (b .mmc1)) (mmc3.isStart (b .mmc3)) h in
-    λ i. record {
-      cart = cart-is b l Uxrom e i;
-      mirroring = screens-is b l i;
-      uxrom = record { bank = uxrom-bank-is b t (p .0) (p .1) i };
-      cnrom = sym (cnrom-start (b .cnrom) (p .0)) i;
-      mmc1 = sym (mmc1-unused (b .mmc1) (p .1)) i;
-      mmc3 = sym (mmc3-start (b .mmc3) (t .eight) (p .2)) i;
-    }
+    of-parts (cart-is b l Uxrom e) (screens-is b l) (λ i. record { bank = uxrom-bank-is b t (p .0) (p .1) i }) (sym (cnrom-start (b .cnrom) (p .0))) (sym (mmc1-unused (b .mmc1) (p .1))) (sym (mmc3-start (b .mmc3) (t .eight) (p .2)))
 board-as b t l Cnrom e h =
     let p = split-4 (uxrom.isStart (b .uxrom)) (cnrom.fits (b .cnrom)) (mmc1.isUnused (b .mmc1)) (mmc3.isStart (b .mmc3)) h in
-    λ i. record {
-      cart = cart-is b l Cnrom e i;
-      mirroring = screens-is b l i;
-      uxrom = sym (uxrom-start (b .uxrom) (p .0)) i;
-      cnrom = record { bank = cnrom-bank-is b (p .0) (p .1) (p .2) i };
-      mmc1 = sym (mmc1-unused (b .mmc1) (p .2)) i;
-      mmc3 = sym (mmc3-start (b .mmc3) (t .eight) (p .3)) i;
-    }
+    of-parts (cart-is b l Cnrom e) (screens-is b l) (sym (uxrom-start (b .uxrom) (p .0))) (λ i. record { bank = cnrom-bank-is b (p .0) (p .1) (p .2) i }) (sym (mmc1-unused (b .mmc1) (p .2))) (sym (mmc3-start (b .mmc3) (t .eight) (p .3)))
 board-as b t l Mmc3 e h =
     let p = split-4 (uxrom.isStart (b .uxrom)) (cnrom.isStart (b .cnrom)) (mmc1.isUnused (b .mmc1)) (mmc3.fits (b .mmc3)) h in
-    λ i. record {
-      cart = cart-is b l Mmc3 e i;
-      mirroring = screens-is b l i;
-      uxrom = sym (uxrom-start (b .uxrom) (p .0)) i;
-      cnrom = sym (cnrom-start (b .cnrom) (p .1)) i;
-      mmc1 = sym (mmc1-unused (b .mmc1) (p .2)) i;
-      mmc3 = mmc3-is b t (p .3) i;
-    }
+    of-parts (cart-is b l Mmc3 e) (screens-is b l) (sym (uxrom-start (b .uxrom) (p .0))) (sym (cnrom-start (b .cnrom) (p .1))) (sym (mmc1-unused (b .mmc1) (p .2))) (mmc3-is b t (p .3))
 
 -- the words of a board name its mapper
 pub mapper-held : (b : Board) → inRange b ≡ true → mapperIn (wordsOf b) ≡ b .cart .mapper
