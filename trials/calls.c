@@ -1,0 +1,239 @@
+/*
+ * A trial of the exported functions through include/biekkarul.h. An input is a header, lengths and a list of
+ * calls on one board; it may also put any bytes into the state. Each call is made twice, on buffers of its own,
+ * and held to what include/biekkarul.h promises.
+ */
+#include "lent.h"
+
+/* One set of lent buffers. */
+struct board {
+    uint8_t *state, *prg_ram, *chr_ram;
+};
+
+#define STATE_ROOM (BIEKKARUL_STATE_LENGTH + GUARD)
+#define RAM_ROOM (BIEKKARUL_RAM_LENGTH + GUARD)
+
+static uint8_t *image;
+static size_t image_length, state_length, prg_length, chr_length;
+static struct board first, second, before;
+
+static void make_board(struct board *b) {
+    b->state = malloc(STATE_ROOM);
+    b->prg_ram = malloc(RAM_ROOM);
+    b->chr_ram = malloc(RAM_ROOM);
+    MUST(b->state && b->prg_ram && b->chr_ram);
+    memset(b->state, 0xA5, STATE_ROOM);
+    memset(b->prg_ram, 0xA5, RAM_ROOM);
+    memset(b->chr_ram, 0xA5, RAM_ROOM);
+}
+
+int LLVMFuzzerInitialize(int *count, char ***words) {
+    size_t i;
+    (void)count, (void)words;
+    image = malloc(MOST_IMAGE);
+    MUST(image);
+    for (i = 0; i < MOST_IMAGE; i++) image[i] = data_at(i);
+    make_board(&first);
+    make_board(&second);
+    make_board(&before);
+    return 0;
+}
+
+static void lend_board(struct board *b) {
+    lend(b->state, STATE_ROOM, state_length);
+    lend(b->prg_ram, RAM_ROOM, prg_length);
+    lend(b->chr_ram, RAM_ROOM, chr_length);
+}
+
+static void copy(struct board *to, const struct board *from) {
+    memcpy(to->state, from->state, state_length);
+    memcpy(to->prg_ram, from->prg_ram, prg_length);
+    memcpy(to->chr_ram, from->chr_ram, chr_length);
+}
+
+static int same(const struct board *a, const struct board *b) {
+    return !memcmp(a->state, b->state, state_length) && !memcmp(a->prg_ram, b->prg_ram, prg_length) &&
+           !memcmp(a->chr_ram, b->chr_ram, chr_length);
+}
+
+/* How many bytes of RAM a call has changed. */
+static unsigned changed(const uint8_t *was, const uint8_t *is, size_t length) {
+    size_t i;
+    unsigned count = 0;
+    if (!memcmp(was, is, length)) return 0;
+    for (i = 0; i < length; i++) count += was[i] != is[i];
+    return count;
+}
+
+/* A length near the one that is asked for: mostly that one. */
+static size_t near_length(unsigned choice, size_t asked) {
+    if (choice < 240) return asked;
+    if (choice < 248) return asked + choice - 244;
+    return choice & 7;
+}
+
+/* Refusals that a call may answer with, as bits. */
+#define BIT(n) (1ul << (n))
+#define LOAD_REFUSALS (BIT(9) | BIT(10) | BIT(3) | BIT(4) | BIT(5) | BIT(6) | BIT(7) | BIT(8))
+#define READ_REFUSALS (BIT(9) | BIT(10) | BIT(11) | BIT(13))
+#define WRITE_REFUSALS (BIT(9) | BIT(10) | BIT(12) | BIT(13) | BIT(14))
+
+static int refused(unsigned answer, unsigned long numbers) {
+    if (!BIEKKARUL_IS_REFUSED(answer)) return 0;
+    MUST(BIEKKARUL_REFUSAL(answer) < 16 && numbers & BIT(BIEKKARUL_REFUSAL(answer)));
+    return 1;
+}
+
+static unsigned load(struct board *b, unsigned mode) {
+    return biekkarul_load(image, image_length, (uint8_t)mode, b->state, state_length, b->prg_ram, prg_length,
+                          b->chr_ram, chr_length);
+}
+
+static unsigned read_at(const struct board *b, unsigned address) {
+    return biekkarul_read(b->state, state_length, image, image_length, b->prg_ram, prg_length, b->chr_ram,
+                          chr_length, (uint16_t)address);
+}
+
+static unsigned write_at(struct board *b, unsigned address, unsigned value) {
+    return biekkarul_write(b->state, state_length, image, image_length, b->prg_ram, prg_length, b->chr_ram,
+                           chr_length, (uint16_t)address, (uint8_t)value);
+}
+
+/* Whether the state is one that calls have made from an accepted load of this image. */
+static int reached;
+
+static int lengths_right(void) {
+    return state_length == BIEKKARUL_STATE_LENGTH && prg_length == BIEKKARUL_RAM_LENGTH &&
+           chr_length == BIEKKARUL_RAM_LENGTH;
+}
+
+static void do_load(unsigned mode) {
+    unsigned answer = load(&first, mode);
+    MUST(answer == load(&second, mode));
+    if (refused(answer, LOAD_REFUSALS)) {
+        MUST(same(&first, &before));
+    } else {
+        size_t i;
+        MUST(answer == 0 && lengths_right() && mode <= 1);
+        for (i = 0; i < prg_length; i++) MUST(first.prg_ram[i] == 0 && first.chr_ram[i] == 0);
+        reached = 1;
+    }
+}
+
+static void do_read(unsigned address) {
+    unsigned answer = read_at(&first, address);
+    MUST(answer == read_at(&second, address));
+    MUST(refused(answer, READ_REFUSALS) || (lengths_right() && answer < 256));
+    MUST(!reached || answer != 256 + 10);
+    MUST(same(&first, &before));
+}
+
+static int is_notice(unsigned answer) {
+    return answer == BIEKKARUL_HORIZONTAL || answer == BIEKKARUL_VERTICAL || answer == BIEKKARUL_UPPER ||
+           answer == BIEKKARUL_LOWER;
+}
+
+static void do_write(unsigned address, unsigned value) {
+    unsigned answer = write_at(&first, address, value);
+    MUST(answer == write_at(&second, address, value));
+    MUST(!reached || answer != 256 + 10);
+    if (refused(answer, WRITE_REFUSALS)) {
+        MUST(same(&first, &before));
+    } else {
+        MUST(lengths_right() && (answer == 0 || is_notice(answer)));
+        MUST(changed(before.prg_ram, first.prg_ram, prg_length) +
+                 changed(before.chr_ram, first.chr_ram, chr_length) <=
+             1);
+        MUST(address < 0x8000 || changed(before.prg_ram, first.prg_ram, prg_length) == 0);
+    }
+}
+
+static void do_clock(void) {
+    unsigned answer = biekkarul_clock(first.state, state_length);
+    MUST(answer == biekkarul_clock(second.state, state_length));
+    MUST(!reached || answer <= 1);
+    MUST(refused(answer, BIT(10)) ? same(&first, &before) : answer <= 1);
+}
+
+static void do_header(unsigned choice) {
+    uint8_t fields[BIEKKARUL_FIELDS_LENGTH + GUARD];
+    size_t i, length = near_length(choice, BIEKKARUL_FIELDS_LENGTH);
+    unsigned answer;
+    memset(fields, 0x5A, sizeof fields);
+    lend(fields, sizeof fields, length);
+    answer = biekkarul_header(image, image_length, fields, length);
+    ASAN_UNPOISON_MEMORY_REGION(fields, sizeof fields);
+    if (refused(answer, BIT(10) | BIT(1) | BIT(2))) {
+        for (i = 0; i < length; i++) MUST(fields[i] == 0x5A);
+    } else {
+        MUST(answer == 0 && length == BIEKKARUL_FIELDS_LENGTH && image_length >= HEADER_LENGTH);
+        MUST(!memcmp(fields, image + 4, length));
+    }
+}
+
+/* Any byte of the state, as an owner could spoil it. */
+static void spoil(unsigned place, unsigned value) {
+    if (state_length == 0) return;
+    first.state[place % state_length] = second.state[place % state_length] = (uint8_t)value;
+    reached = 0;
+}
+
+static void one_call(struct input *in) {
+    unsigned kind = take(in), address, value;
+    copy(&before, &first);
+    switch (kind % 8) {
+    case 0:
+    case 1: do_read(take2(in)); break;
+    case 2:
+    case 3:
+    case 4:
+        address = take2(in);
+        value = take(in);
+        do_write(address, value);
+        break;
+    case 5: do_clock(); break;
+    case 6:
+        if (kind & 0x80) spoil(take(in), take(in));
+        else do_header(take(in));
+        break;
+    default:
+        if (kind & 0x80) do_load(take(in));
+        else do_clock();
+    }
+    MUST(same(&first, &second));
+}
+
+/* Bytes of the image that are promised and not lent: none, but where the trial itself is tried (fuzz.sh). */
+#ifndef LENT_SHORT
+#define LENT_SHORT 0
+#endif
+
+/* The header; the counts say how long the image is, but for what the input adds or takes. */
+static void lend_image(struct input *in) {
+    static const uint8_t magic[4] = {0x4E, 0x45, 0x53, 0x1A};
+    unsigned i, choice = take(in);
+    ASAN_UNPOISON_MEMORY_REGION(image, MOST_IMAGE);
+    memcpy(image, magic, sizeof magic);
+    for (i = 4; i < HEADER_LENGTH; i++) image[i] = (uint8_t)take(in);
+    if (choice == 255) image[take(in) & 3] ^= 1;
+    image_length = near_length(choice, HEADER_LENGTH + PRG_BLOCK * (size_t)image[4] + CHR_BLOCK * (size_t)image[5]);
+    lend(image, MOST_IMAGE, image_length - LENT_SHORT);
+}
+
+int LLVMFuzzerTestOneInput(const uint8_t *bytes, size_t length) {
+    struct input in = {bytes, length};
+    unsigned mode = take(&in);
+    lend_image(&in);
+    state_length = near_length(take(&in), BIEKKARUL_STATE_LENGTH);
+    prg_length = near_length(take(&in), BIEKKARUL_RAM_LENGTH);
+    chr_length = near_length(take(&in), BIEKKARUL_RAM_LENGTH);
+    lend_board(&first);
+    lend_board(&second);
+    lend_board(&before);
+    copy(&second, &first);
+    copy(&before, &first);
+    reached = 0;
+    do_load(mode < 250 ? mode & 1 : mode);
+    while (in.left > 0) one_call(&in);
+    return 0;
+}
