@@ -1,7 +1,6 @@
 // The board of any of the five mappers, and the four public calls: load, read, write, clock.
 // Ported from potatis nes/src/mappers/mod.rs, which chooses the board.
 ghost use mathlib.Core.Path.{_≡_};
-ghost use Rattle.cartridge.specs.Load.{loadedAs, verdict, cartridgeOf};
 ghost use Rattle.places.specs.Places.{byteOf};
 ghost use Rattle.boards.specs.Start.{mmc1Start, startOf, nothing, loadedBoard, LoadOwes};
 ghost use Rattle.boards.specs.Range.{registersFit, screensFit, mirroringFits, inRange, isLoaded, ramsFit, guarded};

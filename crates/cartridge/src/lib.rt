@@ -1,8 +1,7 @@
 // The iNES header, and what a load accepts and leaves. Ported from potatis nes/src/cartridge.rs.
 ghost use mathlib.Core.Path.{_≡_};
 ghost use Prim.Native.Nat.{_+_, _*_};
-ghost use lib.ListN.{length, replicate};
-ghost use Rattle.common.specs.Common.{KB8, KB16};
+ghost use lib.ListN.{length};
 ghost use Rattle.cartridge.specs.Answers.{refusalNumber, mirroringLetter, same, mapperNumber};
 ghost use Rattle.cartridge.specs.Header.{isInes, headerOf, headerAnswer, headerRead, totalSize, mapperOf, mirroringOf, isNes2, isSpecial};
 ghost use Rattle.cartridge.specs.Load.{isPower, oddCounts, badPrg, needed, firstOf, verdictOn, verdict, mapperType, cartridgeOf, loadedAs, ramAfter, LoadOwes, prgTotal, hasChrRam, chrTotal, prgRom, chrRom, chrData, lastPrg, couldLoad, isHeaders};

@@ -1,5 +1,5 @@
 -- CNROM: where a read and a write land, and what a write leaves.
-use Prim.Native.Nat.{ℕ, _-_, _%_}
+use Prim.Native.Nat.{ℕ, _%_}
 use mathlib.Core.Bool.{Bool, cond}
 use lib.Dec.{ltb, eqb}
 use Rattle.common.specs.Common.{KB8}

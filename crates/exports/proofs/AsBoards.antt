@@ -1,15 +1,14 @@
 -- The exported calls on the bytes of a board in range do what the board's own calls do. Assumes nothing.
-use Prim.Native.Nat.{ℕ, _+_, _<_}
-use mathlib.Core.Path.{_≡_, refl, sym, ap, ap₂, subst, subst⁻¹, _∙_}
+use Prim.Native.Nat.{ℕ, _<_}
+use mathlib.Core.Path.{_≡_, refl, sym, ap, ap₂, _∙_}
 use mathlib.Core.Bool.{Bool, true, false, false≢true, cond, _&&_}
 use mathlib.Core.List.{List}
-use borrow.Author.Tests.{eq-eqb, lt-ltb}
+use borrow.Author.Tests.{lt-ltb}
 use lib.Dec.{ltb, eqb}
 use lib.ListN.{length}
-use Rattle.rules.proofs.Bools.{and-left, and-right, and-both}
-use Rattle.common.specs.declared.Mode.{Mode}
+use Rattle.rules.proofs.Bools.{and-left, and-right}
 use Rattle.cartridge.specs.Answers.{mirroringLetter, same}
-use Rattle.cartridge.specs.Header.{headerOf, isInes}
+use Rattle.cartridge.specs.Header.{headerOf}
 use Rattle.cartridge.specs.Load.{firstOf, verdictOn, verdict, cartridgeOf, loadedAs, ramAfter}
 use Rattle.cartridge.specs.declared.Mirroring.{Mirroring}
 use Rattle.cartridge.specs.declared.Mirroring.the-variants.{Horizontal, Vertical, SingleScreenUpper, SingleScreenLower}
@@ -31,13 +30,12 @@ use Rattle.boards.specs.declared.Board.{Board}
 use Rattle.boards.specs.declared.Written.{Written}
 use Rattle.boards.specs.declared.Clocked.{Clocked}
 use Rattle.boards.specs.declared.Loaded.{Loaded}
-use Rattle.states.specs.Words.{modeOf, boardAs, wordsOf}
+use Rattle.states.specs.Words.{modeOf, wordsOf}
 use Rattle.states.specs.Kept.{mapperIn, isKept}
 use Rattle.states.specs.RoundTrip.{OfItsTypes}
-use Rattle.states.specs.declared.Words.{Words}
-use Rattle.exports.specs.Numbers.{refused, readNumber, writeNumber, clockNumber, loadNumber}
-use Rattle.exports.specs.Bytes.{wordsIn, bytesOf, encoded, kept}
-use Rattle.exports.specs.Calls.{boardIn, isState, isKeptFor, reading, readBytes, writing, WriteOwes, clocking, ClockOwes, decision, LoadOwes}
+use Rattle.exports.specs.Numbers.{readNumber, writeNumber, clockNumber, loadNumber}
+use Rattle.exports.specs.Bytes.{wordsIn, encoded, kept}
+use Rattle.exports.specs.Calls.{boardIn, isState, isKeptFor, readBytes, writing, WriteOwes, clocking, ClockOwes, decision, LoadOwes}
 use Rattle.exports.specs.RoundTrip.{WritesAs, ClocksAs, LoadsAs}
 use Rattle.exports.proofs.RoundTrip.{there-and-back, is-a-state}
 

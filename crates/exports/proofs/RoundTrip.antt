@@ -1,12 +1,12 @@
 -- The round trip of a board through its forty bytes, and of the bytes of a state through their board. Assumes nothing.
-use Prim.Native.Nat.{ℕ, _+_, _*_, _/_, _%_, _<_}
-use mathlib.Core.Path.{_≡_, refl, sym, ap, subst⁻¹, _∙_}
-use mathlib.Core.Bool.{Bool, true, false, cond, _&&_}
+use Prim.Native.Nat.{ℕ, _+_, _/_, _%_, _<_}
+use mathlib.Core.Path.{_≡_, refl, sym, ap, _∙_}
+use mathlib.Core.Bool.{true}
 use mathlib.Core.List.{List, [], _∷_, _++_}
 use native.Mathlib.Nat.{div-one}
 use native.Mathlib.Omega.{arith}
 use borrow.Author.Tests.{eqb-true, eq-eqb}
-use lib.Dec.{ltb, eqb}
+use lib.Dec.{eqb}
 use lib.ListN.{length}
 use Rattle.rules.proofs.Bools.{and-left, and-right, and-both}
 use Rattle.memory.specs.Memory.{byte}
@@ -17,7 +17,7 @@ use Rattle.states.specs.Kept.{mapperIn, isKept}
 use Rattle.states.specs.RoundTrip.{OfItsTypes, OfWords}
 use Rattle.states.specs.declared.Words.{Words}
 use Rattle.states.proofs.Digits.{Off, lowest, next}
-use Rattle.states.proofs.Entries.{entries, all-entries}
+use Rattle.states.proofs.Entries.{all-entries}
 use Rattle.states.proofs.RoundTrip as states
 use Rattle.exports.specs.Bytes.{word, wordAt, wordsIn, digit, bytesOfWord, bytesOf, encoded}
 use Rattle.exports.specs.Calls.{boardIn, isState}

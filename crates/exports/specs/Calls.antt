@@ -1,7 +1,7 @@
 -- What each exported call owes its caller: docs/ABI.md, "Answers and refusals".
 use Prim.Native.Nat.{ℕ}
 use mathlib.Core.Path.{_≡_}
-use mathlib.Core.Bool.{Bool, cond, not, _&&_}
+use mathlib.Core.Bool.{Bool, cond, _&&_}
 use mathlib.Core.List.{List}
 use lib.Dec.{ltb, eqb}
 use lib.ListN.{length}
@@ -19,7 +19,6 @@ use Rattle.boards.specs.Write.{writePlace, writtenAs}
 use Rattle.boards.specs.Clock.{ticked, unmoved}
 use Rattle.boards.specs.declared.Board.{Board}
 use Rattle.boards.specs.declared.Loaded.{Loaded}
-use Rattle.boards.specs.declared.Written.{Written}
 use Rattle.boards.specs.declared.Clocked.{Clocked}
 use Rattle.boards.specs.declared.ClockAnswer.the-variants.{Refused as NotClocked}
 use Rattle.states.specs.Words.{modeOf, boardAs, wordsOf}

@@ -23,7 +23,7 @@ use Rattle.boards.specs.declared.ClockAnswer.the-variants.{Refused as NotClocke
 use Rattle.states.specs.Words.{boardAs, wordsOf}
 use Rattle.states.specs.Kept.{isKept}
 use Rattle.states.specs.declared.Words.{Words}
-use Rattle.exports.specs.Numbers.{refused, readNumber, writeNumber, clockNumber, loadNumber, headerNumber, fieldsAfter}
+use Rattle.exports.specs.Numbers.{readNumber, writeNumber, clockNumber, loadNumber, headerNumber, fieldsAfter}
 use Rattle.exports.specs.Bytes.{bytesOfWord}
 use Rattle.exports.specs.Calls.{isKeptFor}
 use Rattle.exports.specs.declared.Due.{Due}

@@ -22,3 +22,4 @@ pub mod SettlesMmc3Met
 pub mod SettlesMmc1
 pub mod SettlesMmc1Met
 pub mod ControlBit4
+pub mod Mark

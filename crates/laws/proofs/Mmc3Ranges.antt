@@ -1,14 +1,14 @@
 -- MMC3's fields stay in range: a data write changes one register and keeps the bits that its range allows. Assumes nothing.
-use Prim.Native.Nat.{ℕ, zero, suc, _*_, _/_, _%_, _≤_, _<_}
+use Prim.Native.Nat.{ℕ, zero, suc, _%_, _≤_, _<_}
 use mathlib.Core.Path.{_≡_, refl, ap, _∙_}
 use mathlib.Core.Logic.{_⊎_, inl, inr, ⊎-elim}
-use mathlib.Core.Bool.{Bool, true, false, _&&_}
+use mathlib.Core.Bool.{Bool, true, _&&_}
 use mathlib.Core.List.{List, [], _∷_}
 use native.Mathlib.Omega.{arith}
 use lib.Dec.{ltb, eqb}
 use lib.ListN.{getD, set}
 use borrow.Author.Tests.{ltb-true, eqb-true, lt-ltb, le-ltb, le-leb, eq-eqb}
-use Rattle.rules.proofs.Bools.{and-left, and-right, split-3, split-5}
+use Rattle.rules.proofs.Bools.{split-3, split-5}
 use Rattle.common.specs.declared.Mode.{Mode}
 use Rattle.cartridge.specs.Load.{isHeaders}
 use Rattle.cartridge.specs.declared.Mirrors.{Mirrors}

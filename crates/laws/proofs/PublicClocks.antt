@@ -1,13 +1,11 @@
 -- The two clock rules through the public calls: on an MMC3 board in range the three writes are accepted, and calls pass the board's own moves on.
 -- Assumes nothing.
-use Prim.Native.Nat.{ℕ, zero, suc, _+_, _-_, _%_, _≤_, _∣_}
-use mathlib.Core.Path.{_≡_, refl, sym, ap, _∙_, subst, subst⁻¹}
+use Prim.Native.Nat.{ℕ, zero, suc, _+_, _-_, _≤_, _∣_}
+use mathlib.Core.Path.{_≡_, refl, sym, ap, _∙_, subst⁻¹}
 use mathlib.Core.Logic.{_↔_}
 use mathlib.Core.Bool.{Bool, true, false, _&&_}
-use lib.Dec.{eqb}
 use lib.ListN.{length}
 use borrow.Author.Tests.{eq-eqb}
-use Rattle.rules.proofs.Bools.{and-both}
 use Rattle.common.specs.declared.Mode.{Mode}
 use Rattle.common.specs.declared.Mode.the-variants.{House, Board as OnBoard}
 use Rattle.cartridge.specs.declared.Cartridge.{Cartridge}
@@ -19,7 +17,7 @@ use Rattle.mmc3.specs.Clock as mmc3-clock
 use Rattle.mmc3.specs.Read as mmc3
 use Rattle.mmc3.specs.Write as mmc3-write
 use Rattle.mmc3.specs.declared.Mmc3 as mmc3-type
-use Rattle.boards.specs.Range.{inRange, isLoaded, ramsFit, guarded}
+use Rattle.boards.specs.Range.{isLoaded, ramsFit, guarded}
 use Rattle.boards.specs.Write.{writePlaceOn, writePlace, turned, mmc3Written, movedOn, moved, writtenAs, landing}
 use Rattle.boards.specs.Clock.{yesNo, mmc3Ticked, tickedOn, ticked as tick, clock}
 use Rattle.boards.specs.Runs.{Lent, Call, next, answer}

@@ -7,15 +7,14 @@ use mathlib.Core.List.{List, [], _∷_}
 use native.Mathlib.Omega.{arith}
 use lib.Dec.{ltb, leb, eqb}
 use lib.ListN.{length}
-use borrow.Author.Tests.{ltb-true, ltb-false, eqb-true, lt-ltb, le-leb, eq-eqb}
-use Rattle.rules.proofs.Bools.{and-left, and-right, and-both, split-3, split-4}
+use borrow.Author.Tests.{ltb-false, lt-ltb, le-leb, eq-eqb}
+use Rattle.rules.proofs.Bools.{and-right, and-both, split-3, split-4}
 use Rattle.common.specs.declared.Mode.{Mode}
 use Rattle.common.specs.declared.Mode.the-variants.{House, Board as OnBoard}
 use Rattle.memory.specs.Memory.{byte}
 use Rattle.cartridge.specs.Answers.{mapperNumber, mirroringLetter, same}
 use Rattle.cartridge.specs.Header.{headerOf, isInes, mapperOf, isSpecial, mirroringOf}
 use Rattle.cartridge.specs.Load.{badPrg, oddCounts, needed, isHeaders, couldLoad, firstOf, verdictOn, verdict, mapperType, cartridgeOf, loadedAs}
-use Rattle.cartridge.specs.declared.Header.{Header}
 use Rattle.cartridge.specs.declared.Cartridge.{Cartridge}
 use Rattle.cartridge.specs.declared.Mirroring.{Mirroring}
 use Rattle.cartridge.specs.declared.Mirrors.{Mirrors}
@@ -33,7 +32,6 @@ use Rattle.mmc1.specs.Write as mmc1-write
 use Rattle.mmc1.specs.Range as mmc1
 use Rattle.mmc1.specs.declared.Mmc1 as mmc1-type
 use Rattle.mmc3.specs.Write as mmc3-write
-use Rattle.mmc3.specs.Clock as mmc3-clock
 use Rattle.mmc3.specs.Read as mmc3-read
 use Rattle.mmc3.specs.Range as mmc3
 use Rattle.boards.specs.Start.{mmc1Start, startOf, loadedBoard}

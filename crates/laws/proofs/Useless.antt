@@ -1,11 +1,11 @@
 -- Each of the four useless programs answers or moves otherwise than the definitions on one small UxROM board. Assumes nothing.
 use Prim.Native.Nat.{ℕ}
 use mathlib.Core.Path.{_≡_, refl, sym, ap, _∙_}
-use mathlib.Core.Bool.{Bool, true, false, false≢true}
+use mathlib.Core.Bool.{false≢true}
 use native.Mathlib.Omega.{arith}
 use Rattle.common.specs.declared.Mode.the-variants.{House}
 use Rattle.places.specs.declared.ReadAnswer.the-variants.{Byte}
-use Rattle.boards.specs.Runs.{Lent, Answer, next, answer}
+use Rattle.boards.specs.Runs.{Lent, next, answer}
 use Rattle.boards.specs.Runs.Call.{read, write}
 use Rattle.boards.specs.Runs.Answer.{toRead}
 use Rattle.boards.specs.declared.Board.{Board}

@@ -1,12 +1,12 @@
 -- For a board in range every place of a read or a write lies inside what it names, since a bank that ends past its data is refused.
 -- In board mode none is refused, by the modulo rule. Assumes nothing.
 use Prim.Native.Nat.{ℕ, _+_, _-_, _*_, _/_, _%_, _≤_, _<_}
-use mathlib.Core.Path.{_≡_, refl, sym, subst, subst⁻¹}
-use mathlib.Core.Bool.{Bool, true, false, cond, not, _&&_, _||_, false≢true}
+use mathlib.Core.Path.{_≡_, refl, subst⁻¹}
+use mathlib.Core.Bool.{Bool, true, false, cond, not, _&&_, _||_}
 use native.Mathlib.Omega.{arith}
-use lib.Dec.{ltb, leb, eqb, lit<, lit≤}
-use borrow.Author.Tests.{ltb-true, ltb-false, leb-true, eqb-true, eqb-false, not-true}
-use Rattle.rules.proofs.Bools.{and-left, and-right, split-3}
+use lib.Dec.{ltb, leb, eqb}
+use borrow.Author.Tests.{ltb-true, ltb-false, leb-true, eqb-false, not-true}
+use Rattle.rules.proofs.Bools.{and-left, split-3}
 use Rattle.common.specs.Common.{KB1, KB4, KB8, KB16}
 use Rattle.common.specs.declared.Mode.{Mode}
 use Rattle.common.specs.declared.Mode.the-variants.{House, Board as OnBoard}
@@ -20,8 +20,6 @@ use Rattle.cartridge.specs.declared.Cartridge.{Cartridge}
 use Rattle.cartridge.specs.declared.MapperType.{MapperType}
 use Rattle.cartridge.specs.declared.MapperType.the-variants.{Nrom, Mmc1, Uxrom, Cnrom, Mmc3}
 use Rattle.places.specs.Places.{prgAt, chrAt, prgPlace, chrPlace, housePpuWrite}
-use Rattle.places.specs.declared.Place.{Place}
-use Rattle.places.specs.declared.Place.the-variants.{Prg, Chr, PrgRam, ChrRam, Zero, Refused}
 use Rattle.nrom.specs.Nrom as nrom
 use Rattle.uxrom.specs.Uxrom as uxrom
 use Rattle.cnrom.specs.Cnrom as cnrom

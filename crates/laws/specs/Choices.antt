@@ -2,7 +2,7 @@
 use Prim.Native.Nat.{ℕ, _+_, _-_, _*_, _%_}
 use mathlib.Core.Bool.{cond}
 use lib.Dec.{ltb}
-use Rattle.mmc3.specs.Read.{R, R+1}
+use Rattle.mmc3.specs.Read.{R}
 
 -- half a screen of pairs, R0, R0+1, R1, R1+1, then half of single banks, R2 to R5
 abbrev pub paired : ℕ → ℕ

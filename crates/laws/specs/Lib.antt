@@ -7,3 +7,4 @@ pub mod Useless
 pub mod Choices
 pub mod SettlesMmc3
 pub mod SettlesMmc1
+pub mod Mark

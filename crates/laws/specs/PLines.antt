@@ -1,6 +1,5 @@
 -- The P lines of document 01, as rows of one table: what is asked, and what is wanted.
 use Prim.Native.Nat.{ℕ, _+_, _-_}
-use mathlib.Core.Bool.{true, false}
 use mathlib.Core.List.{List, [], _∷_, _++_, map}
 use lib.ListN.{replicate}
 use Rattle.common.specs.declared.Mode.{Mode}

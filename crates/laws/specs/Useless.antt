@@ -3,15 +3,12 @@ use Prim.Native.Nat.{ℕ}
 use mathlib.Core.Path.{_≡_}
 use mathlib.Core.Bool.{Bool, true, false}
 use mathlib.Core.List.{List}
-use Rattle.places.specs.declared.ReadAnswer.{ReadAnswer}
 use Rattle.places.specs.declared.ReadAnswer.the-variants.{Byte, Refused as NoByte}
 use Rattle.boards.specs.Runs.{Lent, Call, Answer, next, answer, prgAfter, chrAfter}
 use Rattle.boards.specs.Runs.Call.{read, write}
 use Rattle.boards.specs.Runs.Answer.{toRead, toWrite, toClock}
 use Rattle.boards.specs.declared.Board.{Board}
-use Rattle.boards.specs.declared.WriteAnswer.{WriteAnswer}
 use Rattle.boards.specs.declared.WriteAnswer.the-variants.{Quiet, Notice, Refused as NotWritten}
-use Rattle.boards.specs.declared.ClockAnswer.{ClockAnswer}
 use Rattle.boards.specs.declared.ClockAnswer.the-variants.{No, Yes, Refused as NotClocked}
 
 -- a program: what it answers to a call, the board that it goes on with, and what it leaves in both RAMs

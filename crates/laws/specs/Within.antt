@@ -1,5 +1,5 @@
 -- What a place names, and whether it lies inside.
-use Prim.Native.Nat.{ℕ, _+_, _*_, _<_}
+use Prim.Native.Nat.{_+_, _*_, _<_}
 use Rattle.common.specs.Common.{KB8}
 use Rattle.cartridge.specs.Load.{prgTotal}
 use Rattle.cartridge.specs.declared.Cartridge.{Cartridge}

@@ -1,5 +1,5 @@
 -- MMC1: its start, and the ranges of its fields.
-use Prim.Native.Nat.{ℕ, _-_, _%_, _^_}
+use Prim.Native.Nat.{_-_, _%_, _^_}
 use mathlib.Core.Bool.{Bool, _&&_}
 use lib.Dec.{ltb, eqb}
 use Rattle.mmc1.specs.Write.{empty}

@@ -1,7 +1,6 @@
 // MMC1: a serial register and five registers that it loads. Ported from potatis nes/src/mappers/mmc1.rs.
 ghost use mathlib.Core.Path.{_≡_};
 ghost use Prim.Native.Nat.{_-_, _^_};
-ghost use Rattle.common.specs.Common.{KB4, KB16};
 ghost use Rattle.mmc1.specs.Write.{shifted, entered, registerAt, controlMirroring, mirrorsOf, controlled, withChr0, withChr1, withPrg, houseChr0, houseChr1, houseLoad, boardLoad, load, reset, resetAll, kept, completed, shiftedIn, serialWrite, written};
 ghost use Rattle.mmc1.specs.Read.{prgPair, chrPair, lowerPrg, upperPrg, lowerChr, upperChr, lowerPrgPlace, upperPrgPlace, lowerChrPlace, upperChrPlace, lowerPrgBank, upperPrgBank, lowerChrBank, upperChrBank, readPlace, houseWritePlace, writePlace};
 ghost use Rattle.mmc1.specs.Range.{start, unused, isUnused, serialFits, regsFits, fits};

@@ -1,7 +1,7 @@
 -- The table of CHR choices ends after two rows of eight: past them `choice` is 0. Assumes nothing.
 use Prim.Native.Nat.{ℕ, zero, suc, _≤_}
 use mathlib.Core.Path.{_≡_, refl}
-use mathlib.Core.List.{List, []}
+use mathlib.Core.List.{[]}
 use native.Mathlib.Omega.{arith}
 use lib.ListN.{getD, List·getD-eq-default}
 use Rattle.mmc3.specs.Read.{choices, choice}

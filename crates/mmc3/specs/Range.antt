@@ -1,5 +1,5 @@
 -- MMC3: its start, and the ranges of its fields.
-use Prim.Native.Nat.{ℕ, _%_}
+use Prim.Native.Nat.{_%_}
 use mathlib.Core.Bool.{Bool, false, not, _&&_}
 use mathlib.Core.List.{[], _∷_}
 use lib.Dec.{ltb, eqb}

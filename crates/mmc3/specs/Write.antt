@@ -7,7 +7,6 @@ use Rattle.cartridge.specs.declared.Mirroring.{Mirroring}
 use Rattle.cartridge.specs.declared.Mirroring.the-variants.{Horizontal, Vertical}
 use Rattle.cartridge.specs.declared.Mirrors.the-variants.{AsBefore, As}
 use Rattle.mmc3.specs.Clock.{withIrq}
-use Rattle.mmc3.specs.declared.Irq.{Irq}
 use Rattle.mmc3.specs.declared.Mmc3.{Mmc3}
 use Rattle.mmc3.specs.declared.Wrote.{Wrote}
 

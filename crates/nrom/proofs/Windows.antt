@@ -4,7 +4,7 @@ use mathlib.Core.Bool.{Bool, true, false, cond}
 use Prim.Native.Nat.{ℕ, _-_, _/_, _%_, _≤_, _<_}
 use native.Mathlib.Omega.{arith}
 use borrow.Author.Tests.{le-ltb, ltb-true, ltb-false}
-use lib.Dec.{ltb, eqb}
+use lib.Dec.{ltb}
 use Rattle.common.specs.Common.{KB16}
 use Rattle.cartridge.specs.declared.Cartridge.{Cartridge}
 use Rattle.places.specs.Places.{prgPlace}

@@ -10,7 +10,6 @@ use Rattle.banks.specs.declared.Start.{Start}
 use Rattle.banks.specs.declared.Start.the-variants.{At, PastEnd}
 use Rattle.cartridge.specs.Load.{prgTotal, chrTotal, hasChrRam, prgRom, chrRom}
 use Rattle.cartridge.specs.declared.Cartridge.{Cartridge}
-use Rattle.cartridge.specs.declared.Refusal.{Refusal}
 use Rattle.cartridge.specs.declared.Refusal.the-variants.{BankPastData, NoChrRam}
 use Rattle.places.specs.declared.Place.{Place}
 use Rattle.places.specs.declared.Place.the-variants.{Prg, Chr, PrgRam, ChrRam, Zero, Refused}

@@ -1,8 +1,8 @@
 -- Most ranges hold by the width of a digit; what is left of `inRange` is what the code tests. Assumes nothing.
-use mathlib.Core.Path.{_≡_, refl, sym, ap, ap₂, _∙_}
+use mathlib.Core.Path.{_≡_, refl, sym, ap, _∙_}
 use mathlib.Core.Bool.{Bool, true, false, cond, _&&_, _||_}
-use Prim.Native.Nat.{ℕ, zero, suc, _+_, _*_, _/_, _%_, _<_}
-use native.Mathlib.Nat.{mod-lt, mod-mod, not-suc-le-zero, le-of-suc-le-suc}
+use Prim.Native.Nat.{ℕ, zero, suc, _*_, _/_, _%_, _<_}
+use native.Mathlib.Nat.{mod-lt, mod-mod, not-suc-le-zero}
 use native.Mathlib.Omega.{arith}
 use borrow.Author.Tests.{lt-ltb, le-ltb, eq-eqb, eqb-true, eqb-false}
 use lib.Dec.{ltb, eqb}
@@ -13,8 +13,6 @@ use Rattle.cartridge.specs.Answers.{same, mapperNumber}
 use Rattle.cartridge.specs.Load.{isPower, badPrg, oddCounts, couldLoad, isHeaders}
 use Rattle.cartridge.specs.declared.MapperType.{MapperType}
 use Rattle.cartridge.specs.declared.MapperType.the-variants.{Nrom, Mmc1, Uxrom, Cnrom, Mmc3}
-use Rattle.cnrom.specs.Cnrom as cnrom
-use Rattle.uxrom.specs.Uxrom as uxrom
 use Rattle.mmc1.specs.Range as mmc1
 use Rattle.mmc3.specs.Range as mmc3
 use Rattle.mmc3.specs.Read.{register}

@@ -1,15 +1,12 @@
 -- From an accepted load on, the lent state is the bytes of the board that the same calls reach in Rattle; so no call of a run is refused by 10 for its state.
 -- Assumes nothing.
-use Prim.Native.Nat.{ℕ, _+_, _<_}
+use Prim.Native.Nat.{ℕ, _<_}
 use mathlib.Core.Path.{_≡_, refl, sym, ap, ap₂, subst, subst⁻¹, _∙_}
-use mathlib.Core.Bool.{Bool, true, false, false≢true, cond, _&&_}
+use mathlib.Core.Bool.{Bool, true, false, cond, _&&_}
 use mathlib.Core.List.{List}
 use native.Mathlib.Omega.{arith}
-use borrow.Author.Tests.{ltb-true}
 use lib.Dec.{ltb, eqb}
 use lib.ListN.{length}
-use Rattle.rules.proofs.Bools.{and-left, and-right}
-use Rattle.cartridge.specs.Answers.{refusalNumber}
 use Rattle.cartridge.specs.Header.{headerOf}
 use Rattle.cartridge.specs.Load.{verdict, cartridgeOf, loadedAs}
 use Rattle.common.specs.declared.Mode.{Mode}
@@ -26,13 +23,12 @@ use Rattle.boards.specs.Clock.{ticked, unmoved, clock}
 use Rattle.boards.specs.Runs as runs
 use Rattle.boards.specs.declared.Board.{Board}
 use Rattle.boards.specs.declared.Clocked.{Clocked}
-use Rattle.boards.specs.declared.Loaded.{Loaded}
 use Rattle.states.specs.RoundTrip.{OfItsTypes}
 use Rattle.states.specs.Words.{modeOf, wordsOf}
-use Rattle.exports.specs.Numbers.{refused, readNumber, writeNumber, clockNumber, loadNumber}
-use Rattle.exports.specs.Bytes.{encoded, kept}
-use Rattle.exports.specs.Calls.{isState, readBytes, WriteOwes, ClockOwes, decision, loading, LoadOwes}
-use Rattle.exports.specs.RoundTrip.{AreBytes, WritesAs, ClocksAs}
+use Rattle.exports.specs.Numbers.{refused, readNumber, loadNumber}
+use Rattle.exports.specs.Bytes.{kept}
+use Rattle.exports.specs.Calls.{isState, readBytes, WriteOwes, ClockOwes, decision, LoadOwes}
+use Rattle.exports.specs.RoundTrip.{AreBytes}
 use Rattle.exports.proofs.RoundTrip.{is-a-state}
 use Rattle.exports.proofs.AsBoards.{reads-as, writes-as, clocks-as}
 use Rattle.laws.proofs.Ranges.{load-in-range, next-in-range}

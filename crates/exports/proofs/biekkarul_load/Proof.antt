@@ -1,6 +1,6 @@
 -- 9, 10, then as the boards load; a refusal is 256 or more, so the state is left. Assumes nothing.
 use mathlib.Core.Path.{_≡_}
-use borrow.Author.Tests.{eq-eqb, ne-eqb, eqb-true}
+use borrow.Author.Tests.{eqb-true}
 use lib.Dec.{ltb, eqb}
 use lib.ListN.{length}
 use Rattle.rules.proofs.Bools.{and-left}

@@ -1,5 +1,5 @@
 -- By the two cases; the twelve fields are copied whole. Assumes nothing.
-use borrow.Author.Tests.{eq-eqb, ne-eqb}
+use borrow.Author.Tests.{eq-eqb}
 use Rattle.rules.proofs.Picks.{picks}
 use Rattle.exports.specs.Numbers.{headerNumber, fieldsOf, fieldsAfter}
 use Rattle.memory.specs.Memory.{copied}

@@ -1,5 +1,5 @@
 -- After i turns the first i bytes are those of src and the rest is as it was; where the lengths differ nothing is done. Assumes nothing.
-use mathlib.Core.Path.{_≡_, refl, sym, _∙_}
+use mathlib.Core.Path.{_≡_, refl, _∙_}
 use mathlib.Core.List.{_++_}
 use Prim.Native.Nat.{_≤_, _-_, zero-le}
 use native.Mathlib.Nat.{le-antisymm}

@@ -1,8 +1,5 @@
 -- The branches decide the tests of the definition. Assumes nothing.
 use Rattle.rules.proofs.Picks.{picks}
-use mathlib.Core.Path.{_≡_}
-use mathlib.Core.Bool.{true, false, _&&_}
-use lib.Dec.{eqb}
 use Rattle.mmc3.specs.Read.{acknowledged}
 use Rattle.mmc3.proofs.Mmc3.acknowledged.Statement.{statement}
 use Rattle.mmc3.proofs.Mmc3.acknowledged.Tie as tie
