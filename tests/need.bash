@@ -11,11 +11,12 @@ absolute() {
 absolute BIEKKARUL_LIB
 absolute POTATIS
 
-# install PACKAGE: from Debian, where that can be done; says nothing.
+# install NAME PACKAGE: from Debian, where that can be done.
 install() {
   command -v apt-get >/dev/null && [ "$(id -u)" -eq 0 ] || return
+  echo "$1 not found; installing the Debian package $2"
   export DEBIAN_FRONTEND=noninteractive
-  { apt-get update && apt-get install -y --no-install-recommends "$1"; } >/dev/null 2>&1
+  { apt-get update && apt-get install -y --no-install-recommends "$2"; } >/dev/null 2>&1
 }
 
 # need NAME PACKAGE COMMAND..: the command succeeds, if need be once the package is installed.
@@ -23,9 +24,8 @@ need() {
   local name=$1 package=$2
   shift 2
   "$@" >/dev/null 2>&1 && return
-  echo "$name not found; installing the Debian package $package"
-  install "$package"
-  "$@" >/dev/null 2>&1 || { echo "$name not found, and $package cannot be installed"; return 1; }
+  install "$name" "$package"
+  "$@" >/dev/null 2>&1 || { echo "$name not found, and the Debian package $package cannot be installed"; return 1; }
 }
 
 need_c() {

@@ -1,9 +1,19 @@
 /*
  * A trial of the exported functions through include/biekkarul.h. An input is a header, lengths and a list of
- * calls on one board; it may also put any bytes into the state. Each call is made twice, on buffers of its own,
- * and held to what include/biekkarul.h promises.
+ * calls on one board; it may also put any bytes into the state. Each call is made twice, on buffers of its own:
+ * of the library that the sanitizer watches, and of the library as it is shipped, whose functions are here as
+ * shipped_load and so on. Both are held to what biekkarul.h promises and, from an accepted load on until the input
+ * spoils the state, to the model.
  */
-#include "lent.h"
+#include "model.h"
+
+/* The library as it is shipped: fuzz.sh gives its functions these names. */
+uint16_t shipped_header(const uint8_t *, size_t, uint8_t *, size_t);
+uint16_t shipped_load(const uint8_t *, size_t, uint8_t, uint8_t *, size_t, uint8_t *, size_t, uint8_t *, size_t);
+uint16_t shipped_read(const uint8_t *, size_t, const uint8_t *, size_t, const uint8_t *, size_t, const uint8_t *, size_t,
+                      uint16_t);
+uint16_t shipped_write(uint8_t *, size_t, const uint8_t *, size_t, uint8_t *, size_t, uint8_t *, size_t, uint16_t, uint8_t);
+uint16_t shipped_clock(uint8_t *, size_t);
 
 /* One set of lent buffers. */
 struct board {
@@ -22,9 +32,6 @@ static void make_board(struct board *b) {
     b->prg_ram = malloc(RAM_ROOM);
     b->chr_ram = malloc(RAM_ROOM);
     MUST(b->state && b->prg_ram && b->chr_ram);
-    memset(b->state, 0xA5, STATE_ROOM);
-    memset(b->prg_ram, 0xA5, RAM_ROOM);
-    memset(b->chr_ram, 0xA5, RAM_ROOM);
 }
 
 int LLVMFuzzerInitialize(int *count, char ***words) {
@@ -39,10 +46,14 @@ int LLVMFuzzerInitialize(int *count, char ***words) {
     return 0;
 }
 
-static void lend_board(struct board *b) {
+/* The same bytes at the start of every trial, so that what is found can be found again. */
+static void start(struct board *b) {
     lend(b->state, STATE_ROOM, state_length);
     lend(b->prg_ram, RAM_ROOM, prg_length);
     lend(b->chr_ram, RAM_ROOM, chr_length);
+    memset(b->state, 0xA5, state_length);
+    memset(b->prg_ram, 0xA5, prg_length);
+    memset(b->chr_ram, 0xA5, chr_length);
 }
 
 static void copy(struct board *to, const struct board *from) {
@@ -84,47 +95,52 @@ static int refused(unsigned answer, unsigned long numbers) {
     return 1;
 }
 
-static unsigned load(struct board *b, unsigned mode) {
-    return biekkarul_load(image, image_length, (uint8_t)mode, b->state, state_length, b->prg_ram, prg_length,
-                          b->chr_ram, chr_length);
-}
-
-static unsigned read_at(const struct board *b, unsigned address) {
-    return biekkarul_read(b->state, state_length, image, image_length, b->prg_ram, prg_length, b->chr_ram,
-                          chr_length, (uint16_t)address);
-}
-
-static unsigned write_at(struct board *b, unsigned address, unsigned value) {
-    return biekkarul_write(b->state, state_length, image, image_length, b->prg_ram, prg_length, b->chr_ram,
-                           chr_length, (uint16_t)address, (uint8_t)value);
-}
-
-/* Whether the state is one that calls have made from an accepted load of this image. */
+/* Whether the state is one that calls have made from an accepted load of this image; then the model has it too. */
 static int reached;
+static struct model model;
 
 static int lengths_right(void) {
     return state_length == BIEKKARUL_STATE_LENGTH && prg_length == BIEKKARUL_RAM_LENGTH &&
            chr_length == BIEKKARUL_RAM_LENGTH;
 }
 
+static void rams_as_the_model_has(void) {
+    MUST(!memcmp(first.prg_ram, model.prg_ram, sizeof model.prg_ram));
+    MUST(!memcmp(first.chr_ram, model.chr_ram, sizeof model.chr_ram));
+}
+
+/* "Order in load: 9, 10" and then as the model says. */
+static unsigned wanted_of_load(unsigned mode) {
+    if (prg_length != BIEKKARUL_RAM_LENGTH || chr_length != BIEKKARUL_RAM_LENGTH) return REFUSED(9);
+    if (state_length != BIEKKARUL_STATE_LENGTH || mode > 1) return REFUSED(10);
+    return load_answer(image, image_length, mode);
+}
+
 static void do_load(unsigned mode) {
-    unsigned answer = load(&first, mode);
-    MUST(answer == load(&second, mode));
+    struct board *a = &first, *b = &second;
+    unsigned answer = biekkarul_load(image, image_length, (uint8_t)mode, a->state, state_length, a->prg_ram, prg_length,
+                                     a->chr_ram, chr_length);
+    MUST(answer == shipped_load(image, image_length, (uint8_t)mode, b->state, state_length, b->prg_ram, prg_length,
+                                b->chr_ram, chr_length));
+    MUST(answer == wanted_of_load(mode));
     if (refused(answer, LOAD_REFUSALS)) {
         MUST(same(&first, &before));
     } else {
-        size_t i;
-        MUST(answer == 0 && lengths_right() && mode <= 1);
-        for (i = 0; i < prg_length; i++) MUST(first.prg_ram[i] == 0 && first.chr_ram[i] == 0);
+        MUST(answer == 0 && lengths_right());
+        model_load(&model, image, mode);
         reached = 1;
+        rams_as_the_model_has();
     }
 }
 
 static void do_read(unsigned address) {
-    unsigned answer = read_at(&first, address);
-    MUST(answer == read_at(&second, address));
+    struct board *a = &first, *b = &second;
+    unsigned answer = biekkarul_read(a->state, state_length, image, image_length, a->prg_ram, prg_length, a->chr_ram,
+                                     chr_length, (uint16_t)address);
+    MUST(answer == shipped_read(b->state, state_length, image, image_length, b->prg_ram, prg_length, b->chr_ram,
+                                chr_length, (uint16_t)address));
     MUST(refused(answer, READ_REFUSALS) || (lengths_right() && answer < 256));
-    MUST(!reached || answer != 256 + 10);
+    MUST(!reached || answer == model_read(&model, image, address));
     MUST(same(&first, &before));
 }
 
@@ -134,9 +150,11 @@ static int is_notice(unsigned answer) {
 }
 
 static void do_write(unsigned address, unsigned value) {
-    unsigned answer = write_at(&first, address, value);
-    MUST(answer == write_at(&second, address, value));
-    MUST(!reached || answer != 256 + 10);
+    struct board *a = &first, *b = &second;
+    unsigned answer = biekkarul_write(a->state, state_length, image, image_length, a->prg_ram, prg_length, a->chr_ram,
+                                      chr_length, (uint16_t)address, (uint8_t)value);
+    MUST(answer == shipped_write(b->state, state_length, image, image_length, b->prg_ram, prg_length, b->chr_ram,
+                                 chr_length, (uint16_t)address, (uint8_t)value));
     if (refused(answer, WRITE_REFUSALS)) {
         MUST(same(&first, &before));
     } else {
@@ -146,29 +164,39 @@ static void do_write(unsigned address, unsigned value) {
              1);
         MUST(address < 0x8000 || changed(before.prg_ram, first.prg_ram, prg_length) == 0);
     }
+    if (reached) {
+        MUST(answer == model_write(&model, address, value));
+        rams_as_the_model_has();
+    }
 }
 
 static void do_clock(void) {
     unsigned answer = biekkarul_clock(first.state, state_length);
-    MUST(answer == biekkarul_clock(second.state, state_length));
-    MUST(!reached || answer <= 1);
+    MUST(answer == shipped_clock(second.state, state_length));
     MUST(refused(answer, BIT(10)) ? same(&first, &before) : answer <= 1);
+    MUST(!reached || answer == model_clock(&model));
+}
+
+/* Refusals in the order of biekkarul.h: 10, 1, 2. */
+static unsigned wanted_of_header(size_t fields_length) {
+    if (fields_length != BIEKKARUL_FIELDS_LENGTH) return REFUSED(10);
+    if (image_length < HEADER_LENGTH) return REFUSED(1);
+    return is_ines(image) ? 0 : REFUSED(2);
 }
 
 static void do_header(unsigned choice) {
-    uint8_t fields[BIEKKARUL_FIELDS_LENGTH + GUARD];
+    uint8_t fields[BIEKKARUL_FIELDS_LENGTH + GUARD], shipped[BIEKKARUL_FIELDS_LENGTH + GUARD];
     size_t i, length = near_length(choice, BIEKKARUL_FIELDS_LENGTH);
     unsigned answer;
     memset(fields, 0x5A, sizeof fields);
+    memset(shipped, 0x5A, sizeof shipped);
     lend(fields, sizeof fields, length);
     answer = biekkarul_header(image, image_length, fields, length);
     ASAN_UNPOISON_MEMORY_REGION(fields, sizeof fields);
-    if (refused(answer, BIT(10) | BIT(1) | BIT(2))) {
-        for (i = 0; i < length; i++) MUST(fields[i] == 0x5A);
-    } else {
-        MUST(answer == 0 && length == BIEKKARUL_FIELDS_LENGTH && image_length >= HEADER_LENGTH);
-        MUST(!memcmp(fields, image + 4, length));
-    }
+    MUST(answer == shipped_header(image, image_length, shipped, length));
+    MUST(!memcmp(fields, shipped, sizeof fields));
+    MUST(answer == wanted_of_header(length));
+    for (i = 0; i < length; i++) MUST(fields[i] == (answer == 0 ? image[4 + i] : 0x5A));
 }
 
 /* Any byte of the state, as an owner could spoil it. */
@@ -203,6 +231,9 @@ static void one_call(struct input *in) {
     MUST(same(&first, &second));
 }
 
+/* The choice of a length that stands for a wrong magic instead, with the right length. */
+#define BAD_MAGIC 239
+
 /* Bytes of the image that are promised and not lent: none, but where the trial itself is tried (fuzz.sh). */
 #ifndef LENT_SHORT
 #define LENT_SHORT 0
@@ -214,8 +245,8 @@ static void lend_image(struct input *in) {
     unsigned i, choice = take(in);
     ASAN_UNPOISON_MEMORY_REGION(image, MOST_IMAGE);
     memcpy(image, magic, sizeof magic);
+    if (choice == BAD_MAGIC) image[take(in) & 3] ^= 1;
     for (i = 4; i < HEADER_LENGTH; i++) image[i] = (uint8_t)take(in);
-    if (choice == 255) image[take(in) & 3] ^= 1;
     image_length = near_length(choice, HEADER_LENGTH + PRG_BLOCK * (size_t)image[4] + CHR_BLOCK * (size_t)image[5]);
     lend(image, MOST_IMAGE, image_length - LENT_SHORT);
 }
@@ -227,11 +258,9 @@ int LLVMFuzzerTestOneInput(const uint8_t *bytes, size_t length) {
     state_length = near_length(take(&in), BIEKKARUL_STATE_LENGTH);
     prg_length = near_length(take(&in), BIEKKARUL_RAM_LENGTH);
     chr_length = near_length(take(&in), BIEKKARUL_RAM_LENGTH);
-    lend_board(&first);
-    lend_board(&second);
-    lend_board(&before);
-    copy(&second, &first);
-    copy(&before, &first);
+    start(&first);
+    start(&second);
+    start(&before);
     reached = 0;
     do_load(mode < 250 ? mode & 1 : mode);
     while (in.left > 0) one_call(&in);

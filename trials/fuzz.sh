@@ -1,22 +1,25 @@
 #!/usr/bin/env bash
-# The trial by fire: a coverage-guided fuzzer (libFuzzer) on the exported functions and on tracerun, both compiled with
-# the address sanitizer from the very modules that the proof has passed. What no proof covers is tried here: the
-# compiler's back end and the boundary to C. docs/TRIALS.md has what the long runs gave.
+# The trial by fire: a coverage-guided fuzzer (libFuzzer) on the exported functions and on tracerun. What no proof covers
+# is tried here: the compiler's back end and the boundary to C. Both targets are compiled from the very modules that the
+# proof has passed, with the address sanitizer; the exported functions run beside the library as it is shipped; all
+# answers are held to a model of the boards in C. docs/TRIALS.md says more, and what the long runs gave.
 #
 #   bash trials/fuzz.sh [--minutes N]     both targets side by side, two minutes where nothing is said
+#   bash trials/fuzz.sh --faults          whether the trial finds each fault of trials/faults.txt, put into the model
 #
-# Not part of the gate. Ends non-zero at the first fault and leaves the input that led to it in target/trials.
+# Not part of the gate. Ends non-zero where a target finds a fault, and leaves the input that led to it in target/trials.
 set -uo pipefail
 source "$(dirname "${BASH_SOURCE[0]}")/../tests/need.bash" || exit 2
+source "$(dirname "${BASH_SOURCE[0]}")/seeds.bash" || exit 2
 cd "$(dirname "${BASH_SOURCE[0]}")/.." || exit 2
 
 minutes=2
-case ${1:-} in
-'') ;;
---minutes) minutes=${2:-} ;;
+case "$# ${1:-}" in
+'0 ' | '1 --faults') ;;
+'2 --minutes') minutes=$2 ;;
 *) minutes= ;;
 esac
-[[ $minutes =~ ^[1-9][0-9]*$ ]] && [ $# -le 2 ] || { echo "usage: bash trials/fuzz.sh [--minutes N]"; exit 2; }
+[[ $minutes =~ ^[1-9][0-9]*$ ]] || { echo "usage: bash trials/fuzz.sh [--minutes N | --faults]"; exit 2; }
 
 command -v rt >/dev/null || { echo "the Rattle toolchain (rt) is not on this machine's PATH"; exit 2; }
 links_with_sanitizers() { clang -fsanitize=fuzzer,address,undefined -x c -o /dev/null - <<<'
@@ -36,15 +39,20 @@ real=${RATTLE_HOME:-$(dirname "$(readlink -f "$(command -v rt)")")/..}
 real=$(cd "$real" && pwd) || exit 2
 native=$real/on/$(uname -m)/toolchain
 [ -x "$native/bin/clang" ] || { echo "the toolchain's clang is not where this script looks for it"; exit 2; }
+links_but() { # links_but NAME FROM TO: all that FROM holds, but for NAME, by links in TO
+  local file
+  for file in "$2"/*; do
+    [ "${file##*/}" = "$1" ] || ln -sfn "$file" "$3/${file##*/}"
+  done
+}
 catching_kit() {
-  local kit=$work/kit own
-  own=$kit/on/$(uname -m)
+  local own
+  own=$work/kit/on/$(uname -m)
   mkdir -p "$own/toolchain/bin"
-  ln -sfn "$real"/[!o]* "$kit" # all but the folder on
-  ln -sfn "$real/on/$(uname -m)"/[!t]* "$own" # all but the folder toolchain
-  ln -sfn "$native/lib" "$own/toolchain/lib"
-  ln -sfn "$native/bin/clang" "$own/toolchain/bin/ld.lld"
-  ln -sfn "$native/bin/clang" "$own/toolchain/bin/llvm-ar"
+  links_but on "$real" "$work/kit"
+  links_but toolchain "$real/on/$(uname -m)" "$own"
+  links_but bin "$native" "$own/toolchain"
+  links_but clang "$native/bin" "$own/toolchain/bin"
   cat >"$own/toolchain/bin/clang" <<END
 #!/usr/bin/env bash
 for word in "\$@"; do case \$word in *.bc) cp "\$word" "$work/caught.bc" ;; esac; done
@@ -58,6 +66,7 @@ catch() {
   local name=$1
   shift
   is_fresh "$work/$name.bc" && return
+  rm -f "$work/$name.bc"
   rm -f "$work/caught.bc"
   RATTLE_HOME=$work/kit "$@" >"$work/$name.log" 2>&1 && mv "$work/caught.bc" "$work/$name.bc" ||
     { tail -n 5 "$work/$name.log"; echo "the module of $name was not caught"; return 1; }
@@ -70,7 +79,8 @@ instrumented() {
     sed -i 's/^attributes #0 = { nounwind/& sanitize_address/' "$work/$1.ll" &&
     grep -q '^attributes #0 = .* sanitize_address' "$work/$1.ll" &&
     "$native/bin/clang" "${words[@]}" -c -fPIC -O3 -fsanitize=address \
-      -fsanitize-coverage=inline-8bit-counters,pc-table,trace-cmp -o "$work/$1.o" "$work/$1.ll" ||
+      -fsanitize-coverage=inline-8bit-counters,pc-table,trace-cmp -o "$work/$1.o" "$work/$1.ll" &&
+    nm "$work/$1.o" | grep -q __sanitizer_cov_8bit_counters_init && nm "$work/$1.o" | grep -q __asan_report_load ||
     { echo "the module of $1 cannot be instrumented"; return 1; }
 }
 
@@ -78,40 +88,62 @@ linked() { # linked NAME SOURCE WORDS..
   local name=$1 source=$2
   shift 2
   clang -g -O1 -std=c11 -Wall -Wextra -Werror -Iinclude -fsanitize=fuzzer,address,undefined \
-    -fno-sanitize-recover=all -o "$work/$name" "trials/$source" "$@" || { echo "trials/$source does not build"; return 1; }
+    -fno-sanitize-recover=all -o "$work/$name" "$source" "$@" || { echo "$source does not build"; return 1; }
 }
 
 catching_kit || exit 2
 echo "proving and catching what is tried"
-catch exports rt staticlib exports || exit 1
+staticlib() { rt staticlib exports && cp target/staticlib/libexports.a "$work/shipped.a"; }
+[ -f "$work/shipped.a" ] || rm -f "$work/exports.bc"
+catch exports staticlib || exit 1
 is_fresh "$work/tracerun.bc" || rm -f target/stamp/tracerun # so that it is compiled anew
 catch tracerun rt check tracerun || exit 1
 instrumented exports && instrumented tracerun || exit 1
 objcopy --redefine-sym main=tracerun_main --redefine-sym read=tracerun_read --redefine-sym write=tracerun_write \
   "$work/tracerun.o" || exit 1
-linked calls calls.c "$work/exports.o" || exit 1
-linked short calls.c -DLENT_SHORT=1 "$work/exports.o" || exit 1
-linked traces traces.c "$work/tracerun.o" "$work/exports.o" || exit 1
+renamed=()
+for name in header load read write clock; do renamed+=(--redefine-sym "biekkarul_$name=shipped_$name"); done
+objcopy "${renamed[@]}" "$work/shipped.a" "$work/beside.a" || exit 1
+linked calls trials/calls.c "$work/exports.o" "$work/beside.a" || exit 1
+linked short trials/calls.c -DLENT_SHORT=1 "$work/exports.o" "$work/beside.a" || exit 1
+linked traces trials/traces.c "$work/tracerun.o" || exit 1
 
-# Seeds: one PRG and one CHR block on each mapper in each mode, with a read of the image's last byte.
-zeros() { printf '%*s' "$1" '' | tr ' ' '\000'; }
-for mapper in 0 1 2 3 4; do
-  for mode in 0 1; do
-    byte6="\\x${mapper}0"
-    { printf "\\x0$mode\\x00\\x01\\x01$byte6"; zeros 12; printf '\x00\x1F\xFF'; } >"$work/corpus/calls/seed-$mapper-$mode"
-    { printf "\\x00\\x00\\x0$mode\\x01\\x01$byte6"; zeros 9; printf '\x00\x1F\xFF'; } >"$work/corpus/traces/seed-$mapper-$mode"
-  done
-done
+seeds "$work/corpus/calls" "$work/corpus/traces"
 
 # The sanitizer sees into the library: with the image's last byte not lent, that read must be reported there.
-if "$work/short" "$work/corpus/calls/seed-0-0" >"$work/short.log" 2>&1 || ! grep -q 'use-after-poison' "$work/short.log" ||
+if "$work/short" "$work/corpus/calls/seed-last-byte" >"$work/short.log" 2>&1 || ! grep -q 'use-after-poison' "$work/short.log" ||
   ! grep -A 9 'use-after-poison' "$work/short.log" | grep -q '#0 .* in biekkarul_read'; then
   echo "a byte too few is not reported: the trial would show nothing"
   exit 1
 fi
 
+# One fault after another: the inputs kept so far first, then up to a minute of new ones.
+faults() {
+  local line old new count=0 missed=0
+  mkdir -p "$work/fault" && cp trials/calls.c trials/lent.h "$work/fault" || return
+  while IFS= read -r line; do
+    case $line in '' | '#'*) continue ;; esac
+    old=${line%% => *} new=${line#* => }
+    count=$((count + 1))
+    OLD=$old NEW=$new awk '
+      { at = index($0, ENVIRON["OLD"]) }
+      at { found++; $0 = substr($0, 1, at - 1) ENVIRON["NEW"] substr($0, at + length(ENVIRON["OLD"])) }
+      { print }
+      END { exit found != 1 }' trials/model.h >"$work/fault/model.h" || { echo "stands not once in trials/model.h: $old"; return 1; }
+    linked faulty "$work/fault/calls.c" "$work/exports.o" "$work/beside.a" || return
+    if "$work/faulty" -max_total_time=60 -max_len=1024 -artifact_prefix="$work/fault/" "$work/corpus/calls" >"$work/fault/log" 2>&1 ||
+      ! grep -q '^broken at ' "$work/fault/log"; then
+      echo "not found: $line"
+      missed=$((missed + 1))
+    fi
+  done <trials/faults.txt
+  echo "$count faults put into the model, $((count - missed)) found"
+  [ "$missed" -eq 0 ]
+}
+[ "${1:-}" != --faults ] || { faults; exit; }
+
 try() { # try NAME GREATEST-LENGTH
-  "$work/$1" -max_total_time=$((minutes * 60)) -max_len="$2" -timeout=60 -print_final_stats=1 -verbosity=1 \
+  "$work/$1" -max_total_time=$((minutes * 60)) -max_len="$2" -timeout=60 -report_slow_units=60 -print_final_stats=1 \
     -artifact_prefix="$work/found-$1-" "$work/corpus/$1" >"$work/$1.log" 2>&1
 }
 told() { # told NAME STATUS: the figures of a run
@@ -120,7 +152,7 @@ told() { # told NAME STATUS: the figures of a run
   edges=$(grep -o 'cov: [0-9]*' "$work/$1.log" | tail -n 1)
   kept=$(find "$work/corpus/$1" -type f | wc -l)
   if [ "$2" -ne 0 ] || [ -z "$runs" ]; then
-    echo "$1: a fault after ${runs:-?} executions; see target/trials/$1.log"
+    echo "$1: ended with status $2 after ${runs:-?} executions: see target/trials/$1.log, and target/trials/found-$1-* for a fault"
     return 1
   fi
   echo "$1: $runs executions in $minutes min, ${edges#cov: } edges reached, $kept inputs kept, no fault"

@@ -33,8 +33,8 @@ static void lend(uint8_t *arena, size_t room, size_t length) {
     ASAN_POISON_MEMORY_REGION(arena + length, room - length);
 }
 
-/* What an image holds behind its header, so that a bank can be told from another. */
-static uint8_t data_at(size_t place) { return (uint8_t)(place * 31 + place / 1024 * 7 + 1); }
+/* What an image holds behind its header, so that a bank can be told from another, also from one 256 KB away. */
+static uint8_t data_at(size_t place) { return (uint8_t)(place * 31 + (place >> 10) * 7 + (place >> 18) * 101 + 1); }
 
 /* The input of a trial, taken byte by byte; when it is used up, zeros. */
 struct input {

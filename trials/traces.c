@@ -1,9 +1,9 @@
 /*
  * A trial of the program tracerun: its main stands here as tracerun_main, reads the trace that the input describes
- * and writes its text into a buffer of ours. The text is held to what a player of the same trace, written here after
- * docs/ABI.md and the trace format of README.md, says by the exported functions.
+ * and writes its text into a buffer of ours. The text is held to what a player of the same trace says, written here after
+ * document 01 over the model of the boards.
  */
-#include "lent.h"
+#include "model.h"
 
 #include <stdarg.h>
 #include <sys/types.h>
@@ -78,20 +78,14 @@ static int is_trace(void) {
     return 1;
 }
 
-static uint8_t state[BIEKKARUL_STATE_LENGTH], prg_ram[BIEKKARUL_RAM_LENGTH], chr_ram[BIEKKARUL_RAM_LENGTH];
+static struct model model;
 
-static void play_event(const uint8_t *image, size_t image_length, unsigned place, const uint8_t *event) {
-    uint16_t address = (uint16_t)(event[1] << 8 | event[2]);
-    unsigned answer;
+static void play_event(const uint8_t *image, unsigned place, const uint8_t *event) {
+    unsigned address = (unsigned)event[1] << 8 | event[2], answer;
     char letter = "RWC"[event[0]];
-    if (event[0] == 0)
-        answer = biekkarul_read(state, sizeof state, image, image_length, prg_ram, sizeof prg_ram, chr_ram,
-                                sizeof chr_ram, address);
-    else if (event[0] == 1)
-        answer = biekkarul_write(state, sizeof state, image, image_length, prg_ram, sizeof prg_ram, chr_ram,
-                                 sizeof chr_ram, address, event[3]);
-    else
-        answer = biekkarul_clock(state, sizeof state);
+    if (letter == 'R') answer = model_read(&model, image, address);
+    else if (letter == 'W') answer = model_write(&model, address, event[3]);
+    else answer = model_clock(&model);
     if (BIEKKARUL_IS_REFUSED(answer)) say("%u %c !%u\n", place, letter, BIEKKARUL_REFUSAL(answer));
     else if (letter == 'R') say("%u R %02X\n", place, answer);
     else if (letter == 'W') say("%u W %c\n", place, answer == 0 ? '-' : (char)answer);
@@ -108,15 +102,14 @@ static void play(void) {
     }
     image_length = number(1, 4);
     count = number(6 + image_length, 2);
-    answer = biekkarul_load(image, image_length, trace[5], state, sizeof state, prg_ram, sizeof prg_ram, chr_ram,
-                            sizeof chr_ram);
+    answer = load_answer(image, image_length, trace[5]);
     if (BIEKKARUL_IS_REFUSED(answer)) {
         say("refused %u\n", BIEKKARUL_REFUSAL(answer));
         return;
     }
-    say("load %u %c %u %u\n", (image[6] >> 4) | (image[7] & 0xF0), image[6] & 1 ? 'V' : 'H', image[4], image[5]);
-    for (i = 0; i < count; i++)
-        play_event(image, image_length, (unsigned)i, trace + 8 + image_length + 4 * i);
+    model_load(&model, image, trace[5]);
+    say("load %u %c %u %u\n", model.mapper, (char)model.header_mirroring, model.prg, model.chr);
+    for (i = 0; i < count; i++) play_event(image, (unsigned)i, trace + 8 + image_length + 4 * i);
 }
 
 static void put(unsigned byte) {
@@ -157,6 +150,7 @@ static void describe(struct input *in) {
     memcpy(header, magic, sizeof magic);
     for (i = 4; i < HEADER_LENGTH; i++) header[i] = (uint8_t)take(in);
     image_length = HEADER_LENGTH + PRG_BLOCK * (size_t)header[4] + CHR_BLOCK * (size_t)header[5];
+    if (choice == 237) header[take(in) & 3] ^= 1;
     if (choice >= 240) image_length = (image_length + choice - 248) & 0xFFFF;
     put(choice == 239 ? 0 : 1);
     put_number(image_length, 4);

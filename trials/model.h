@@ -1,0 +1,238 @@
+/*
+ * The boards once more: document 01 read a second time and written plainly in C, with no eye to speed and none to the
+ * library's code. The trials hold the library's answers and both RAMs to it. Answers are numbers as in biekkarul.h.
+ */
+#ifndef TRIALS_MODEL_H
+#define TRIALS_MODEL_H
+
+#include "lent.h"
+
+enum mapper { NROM, MMC1, UXROM, CNROM, MMC3 };
+
+#define REFUSED(number) (256u + (number))
+#define LAST_OF(blocks) ((blocks) - 1)
+
+struct model {
+    unsigned board_mode, mapper, prg, chr; /* counts of 16 KB and 8 KB */
+    unsigned header_mirroring, mirroring;
+    unsigned uxrom_bank, cnrom_bank;
+    unsigned serial_count, serial_bits, mmc1_prg_mode, mmc1_chr_mode, chr_0, chr_1, mmc1_prg;
+    unsigned selected, r[8], mmc3_prg_mode, mmc3_chr_mode;
+    unsigned latch, counter, reload, enabled;
+    uint8_t prg_ram[BIEKKARUL_RAM_LENGTH], chr_ram[BIEKKARUL_RAM_LENGTH];
+};
+
+static int is_power_of_two(unsigned n) { return n > 0 && n <= 128 && (n & (n - 1)) == 0; }
+
+static unsigned mapper_of(const uint8_t *image) { return (image[7] & 0xF0u) | image[6] >> 4; }
+
+static int is_ines(const uint8_t *image) { return !memcmp(image, "NES\x1A", 4); }
+
+/* What a load answers, lengths of the lent buffers being right: "Order in load: 3, 4, 5, 6, 7, 8". */
+static unsigned load_answer(const uint8_t *image, size_t length, unsigned board_mode) {
+    unsigned prg, chr;
+    if (length < 16400 || !is_ines(image)) return REFUSED(3);
+    prg = image[4];
+    chr = image[5];
+    if (mapper_of(image) > 4) return REFUSED(4);
+    if (image[6] & 0x0C) return REFUSED(5);
+    if (prg == 0 || (prg > 2 && (mapper_of(image) == NROM || mapper_of(image) == CNROM))) return REFUSED(6);
+    if (length < HEADER_LENGTH + PRG_BLOCK * (size_t)prg + CHR_BLOCK * (size_t)chr) return REFUSED(7);
+    if (board_mode && (!is_power_of_two(prg) || (chr != 0 && !is_power_of_two(chr)))) return REFUSED(8);
+    return 0;
+}
+
+static void model_load(struct model *m, const uint8_t *image, unsigned board_mode) {
+    memset(m, 0, sizeof *m);
+    m->board_mode = board_mode;
+    m->mapper = mapper_of(image);
+    m->prg = image[4];
+    m->chr = image[5];
+    m->header_mirroring = m->mirroring = image[6] & 1 ? BIEKKARUL_VERTICAL : BIEKKARUL_HORIZONTAL;
+    m->mmc1_prg_mode = 3;
+}
+
+/* Where the bank of a number starts in data of a length: house refuses a bank past the data, the board takes it modulo. */
+static int bank_start(const struct model *m, unsigned bank, unsigned size, size_t data, size_t *start) {
+    if (m->board_mode) bank %= (unsigned)(data / size);
+    *start = (size_t)bank * size;
+    return *start + size <= data;
+}
+
+static unsigned prg_byte(const struct model *m, const uint8_t *image, unsigned size, unsigned bank, unsigned at) {
+    size_t start;
+    if (!bank_start(m, bank, size, PRG_BLOCK * (size_t)m->prg, &start)) return REFUSED(11);
+    return image[HEADER_LENGTH + start + at];
+}
+
+/* CHR count 0 means 8,192 bytes of CHR RAM. */
+static size_t chr_length_of(const struct model *m) { return CHR_BLOCK * (size_t)(m->chr ? m->chr : 1); }
+
+static unsigned chr_byte(const struct model *m, const uint8_t *image, unsigned size, unsigned bank, unsigned at) {
+    size_t start;
+    if (!bank_start(m, bank, size, chr_length_of(m), &start)) return REFUSED(11);
+    return m->chr ? image[HEADER_LENGTH + PRG_BLOCK * (size_t)m->prg + start + at] : m->chr_ram[start + at];
+}
+
+/* The CHR bank that a PPU address shows, and its size. */
+static unsigned chr_bank(const struct model *m, unsigned address, unsigned *size) {
+    static const unsigned choices[2][8] = {{0, 0, 1, 1, 2, 3, 4, 5}, {2, 3, 4, 5, 0, 0, 1, 1}};
+    unsigned half = address / 0x1000, kilobyte = address / 0x400, low;
+    switch (m->mapper) {
+    case CNROM:
+        *size = 0x2000;
+        return m->cnrom_bank;
+    case MMC1:
+        *size = 0x1000;
+        if (m->mmc1_chr_mode) return half ? m->chr_1 : m->chr_0;
+        low = m->board_mode ? m->chr_0 & ~1u : m->chr_0;
+        return low + half;
+    case MMC3:
+        *size = 0x400;
+        low = choices[m->mmc3_chr_mode][kilobyte];
+        return low > 1 ? m->r[low] : m->r[low] + kilobyte % 2;
+    default:
+        *size = 0x2000;
+        return 0;
+    }
+}
+
+static unsigned mmc1_prg_bank(const struct model *m, unsigned upper) {
+    unsigned first = m->board_mode ? m->mmc1_prg & ~1u : m->mmc1_prg / 2;
+    switch (m->mmc1_prg_mode) {
+    case 2: return upper ? m->mmc1_prg : 0;
+    case 3: return upper ? LAST_OF(m->prg) : m->mmc1_prg;
+    default: return first + upper;
+    }
+}
+
+static unsigned mmc3_prg_bank(const struct model *m, unsigned window) {
+    unsigned last = LAST_OF(2 * m->prg);
+    if (window == 3) return last;
+    if (window == 1) return m->r[7];
+    return (window == 0) == (m->mmc3_prg_mode == 0) ? m->r[6] : last - 1;
+}
+
+static unsigned prg_read(const struct model *m, const uint8_t *image, unsigned address) {
+    unsigned upper = address >= 0xC000, at = address % 0x4000;
+    switch (m->mapper) {
+    case MMC1: return prg_byte(m, image, PRG_BLOCK, mmc1_prg_bank(m, upper), at);
+    case UXROM: return prg_byte(m, image, PRG_BLOCK, upper ? LAST_OF(m->prg) : m->uxrom_bank, at);
+    case MMC3: return prg_byte(m, image, 0x2000, mmc3_prg_bank(m, address / 0x2000 % 4), address % 0x2000);
+    default:
+        if (m->mapper == CNROM && !m->board_mode && !upper && m->prg == 1) return REFUSED(13);
+        return prg_byte(m, image, PRG_BLOCK, upper ? LAST_OF(m->prg) : 0, at);
+    }
+}
+
+static int has_prg_ram(const struct model *m) { return m->mapper == MMC1 || m->mapper == MMC3; }
+
+static unsigned model_read(const struct model *m, const uint8_t *image, unsigned address) {
+    unsigned bank, size;
+    if (address >= 0x8000) return prg_read(m, image, address);
+    if (address < 0x2000) {
+        bank = chr_bank(m, address, &size);
+        return chr_byte(m, image, size, bank, address % size);
+    }
+    if (m->mapper == CNROM && !m->board_mode) return REFUSED(13);
+    return address >= 0x6000 && has_prg_ram(m) ? m->prg_ram[address - 0x6000] : 0;
+}
+
+static unsigned notice(struct model *m, unsigned mirroring) {
+    unsigned against = m->board_mode ? m->mirroring : m->header_mirroring;
+    if (m->board_mode) m->mirroring = mirroring;
+    return mirroring == against ? 0 : mirroring;
+}
+
+static unsigned mmc1_register(struct model *m, unsigned address, unsigned bits) {
+    static const unsigned screens[4] = {BIEKKARUL_LOWER, BIEKKARUL_UPPER, BIEKKARUL_VERTICAL, BIEKKARUL_HORIZONTAL};
+    int whole = m->board_mode || m->mmc1_chr_mode;
+    switch (address / 0x2000) {
+    case 4:
+        m->mmc1_prg_mode = bits / 4 % 4;
+        m->mmc1_chr_mode = bits / 16;
+        return notice(m, screens[bits % 4]);
+    case 5: m->chr_0 = whole ? bits : bits / 2; break;
+    case 6: m->chr_1 = whole ? bits : m->chr_1; break;
+    default: m->mmc1_prg = bits % 16;
+    }
+    return 0;
+}
+
+static unsigned mmc1_serial(struct model *m, unsigned address, unsigned value) {
+    unsigned bits;
+    if (value & 0x80) {
+        m->serial_count = m->serial_bits = 0;
+        if (m->board_mode) m->mmc1_prg_mode = 3;
+        return 0;
+    }
+    m->serial_bits |= (value & 1) << m->serial_count++;
+    if (m->serial_count < 5) return 0;
+    bits = m->serial_bits;
+    m->serial_count = m->serial_bits = 0;
+    return mmc1_register(m, address, bits);
+}
+
+static unsigned mmc3_register(struct model *m, unsigned address, unsigned value) {
+    unsigned odd = address % 2;
+    switch (address / 0x2000 * 2 + odd) {
+    case 8:
+        m->selected = value % 8;
+        m->mmc3_prg_mode = value / 64 % 2;
+        m->mmc3_chr_mode = value / 128;
+        break;
+    case 9: m->r[m->selected] = m->selected < 2 ? value & ~1u : m->selected > 5 ? value & 0x3F : value; break;
+    case 10: return notice(m, value & 1 ? BIEKKARUL_HORIZONTAL : BIEKKARUL_VERTICAL);
+    case 12: m->latch = value; break;
+    case 13: m->reload = 1; break;
+    case 14:
+        if (!m->board_mode && m->enabled && m->counter <= 1) return REFUSED(14);
+        m->enabled = 0;
+        break;
+    case 15: m->enabled = 1; break;
+    }
+    return 0;
+}
+
+static unsigned register_write(struct model *m, unsigned address, unsigned value) {
+    switch (m->mapper) {
+    case MMC1: return mmc1_serial(m, address, value);
+    case MMC3: return mmc3_register(m, address, value);
+    case UXROM: m->uxrom_bank = value; break;
+    case CNROM: m->cnrom_bank = value % 4; break;
+    }
+    return 0;
+}
+
+static unsigned ppu_write(struct model *m, unsigned address, unsigned value) {
+    unsigned bank, size;
+    size_t start;
+    if (m->board_mode) {
+        bank = chr_bank(m, address, &size);
+        if (m->chr == 0 && bank_start(m, bank, size, CHR_BLOCK, &start)) m->chr_ram[start + address % size] = (uint8_t)value;
+        return 0;
+    }
+    if (m->mapper == MMC3) return 0;
+    if (m->mapper != CNROM && m->chr != 0) return REFUSED(12);
+    (m->mapper == CNROM ? m->prg_ram : m->chr_ram)[address] = (uint8_t)value;
+    return 0;
+}
+
+static unsigned model_write(struct model *m, unsigned address, unsigned value) {
+    if (address >= 0x8000) return register_write(m, address, value);
+    if (address < 0x2000) return ppu_write(m, address, value);
+    if (m->mapper == CNROM && !m->board_mode) return REFUSED(13);
+    if (address >= 0x6000 && has_prg_ram(m)) m->prg_ram[address - 0x6000] = (uint8_t)value;
+    return 0;
+}
+
+static unsigned model_clock(struct model *m) {
+    unsigned at_zero = m->counter == 0, marked = m->reload;
+    if (m->mapper != MMC3) return 0;
+    m->counter = marked || at_zero ? m->latch : m->counter - 1;
+    m->reload = 0;
+    if (m->board_mode) return m->counter == 0 && m->enabled;
+    return !marked && at_zero && m->enabled;
+}
+
+#endif

@@ -1,0 +1,57 @@
+# The inputs that the fuzzer starts from. Sourced by fuzz.sh.
+
+# bytes HEX..: those bytes.
+bytes() {
+  local hex="$*"
+  printf '%b' "$(sed 's/../\\x&/g' <<<"${hex//[[:space:]]/}")"
+}
+
+# history MAPPER READ WRITE CLOCK: calls that visit each register and each window of the board, as hex. READ, WRITE and
+# CLOCK are the bytes that stand for the calls.
+history() {
+  local mapper=$1 read=$2 write=$3 clock=$4 address n
+  serial() { # serial ADDRESS VALUE: five bits, least first
+    for n in 0 1 2 3 4; do echo "$write$1$(printf '%02X' $(($2 >> n & 1)))"; done
+  }
+  case $mapper in
+  1)
+    echo "${write}800080"
+    serial 8000 0
+    serial E000 7
+    echo "${read}8000${read}C000"
+    serial 8000 28
+    serial A000 31
+    serial C000 30
+    ;;
+  2 | 3) echo "${write}8000FF" ;;
+  4)
+    for n in 0 1 2 3 4 5 6 7; do echo "${write}80000${n}${write}8001FF"; done
+    echo "${write}8000C0${write}A00001${write}C00002${write}C00100${write}E00100$clock$clock$clock$clock$clock${write}E00000"
+    ;;
+  esac
+  for address in 0000 0400 0FFF 1000 1C00 1FFF 2000 6000 8000 A000 C000 E000 FFFF; do
+    echo "$write${address}5A$read$address"
+  done
+}
+
+# seeds CALLS TRACES: fills the two folders.
+seeds() {
+  local mapper mode counts choice byte6 zeros=00000000000000000000
+  for mapper in 0 1 2 3 4; do
+    byte6=$(printf '%02X' $((mapper * 16)))
+    for mode in 00 01; do
+      for counts in 0100 0101 0202 0402 4040; do
+        # mode, choice of the image's length, header, choices of three lengths
+        bytes "$mode" 00 "$counts$byte6${zeros:0:18}" 000000 "$(history "$mapper" 00 02 05)" >"$1/seed-$mapper-$mode-$counts"
+        # form, choice of the image's length, mode, header
+        bytes 00 00 "$mode" "$counts$byte6${zeros:0:18}" "$(history "$mapper" 00 01 02)" >"$2/seed-$mapper-$mode-$counts"
+      done
+    done
+  done
+  for choice in F0 F1 F2 F3 F4 F5 F6 F7; do # a few bytes too few or too many
+    bytes 00 "$choice" 010000"${zeros:0:18}" 000000 >"$1/seed-length-$choice"
+    bytes 00 "$choice" 00 010000"${zeros:0:18}" >"$2/seed-length-$choice"
+  done
+  # a read of the image's last byte
+  bytes 00 00 010100"${zeros:0:18}" 000000 001FFF >"$1/seed-last-byte"
+}
