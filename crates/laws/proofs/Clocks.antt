@@ -1,5 +1,5 @@
--- When a run of clocks answers yes. Both modes move the unit alike, through the latch n, n - 1, .., 0 and round again, so one induction serves both.
--- Assumes nothing.
+-- When a run of clocks of one unit answers yes. Both modes move the unit alike, through the latch n, n - 1, .., 0 and round again, so one induction
+-- serves both. Assumes nothing.
 use Prim.Native.Nat.{ℕ, zero, suc, _-_, _%_, _+_, _≤_, _<_, _∣_}
 use mathlib.Core.Path.{_≡_, refl, _∙_, sym, ap}
 use mathlib.Core.Logic.{_↔_}
@@ -11,11 +11,18 @@ use lib.Dec.{eqb}
 use borrow.Author.Tests.{eqb-true, eqb-false}
 use Rattle.common.specs.declared.Mode.{Mode}
 use Rattle.common.specs.declared.Mode.the-variants.{House, Board}
-use Rattle.mmc3.specs.Clock.{houseClock, nextCounter, boardClock, clockIn, withIrq, clocked}
-use Rattle.mmc3.specs.Write.{kept, latched, marked, switched, writtenEven, writtenOdd, written}
+use Rattle.mmc3.specs.Clock.{houseClock, nextCounter, boardClock, clockIn}
 use Rattle.mmc3.specs.declared.Irq.{Irq}
-use Rattle.mmc3.specs.declared.Mmc3.{Mmc3}
-use Rattle.laws.specs.Clocks.{armed, after, answered}
+
+-- the unit after k clocks
+abbrev pub unitAfter : Mode → ℕ → Irq → Irq
+unitAfter mode zero u = u
+unitAfter mode (suc k) u = clockIn mode (unitAfter mode k u) .irq
+
+-- whether clock k, counted from one, answers yes
+abbrev pub unitSays : Mode → ℕ → Irq → Bool
+unitSays mode zero u = false
+unitSays mode (suc k) u = clockIn mode (unitAfter mode k u) .answer
 
 -- the counter j clocks after it became the latch n: n, n - 1, .., 0, n, ..
 abbrev shown : ℕ → ℕ → ℕ
@@ -25,21 +32,16 @@ shown n j = n - j % suc n
 abbrev unit : ℕ → ℕ → Irq
 unit n c = record { enabled = true; latch = n; counter = c; reload = false }
 
-abbrev ready : ℕ → ℕ → Irq
+abbrev pub ready : ℕ → ℕ → Irq
 ready n c = record { enabled = true; latch = n; counter = c; reload = true }
 
--- the three writes leave such a unit
-is-ready : (m : Mmc3) (n x y : ℕ) → armed m n x y .irq ≡ ready n (m .irq .counter)
-unfolding written writtenEven writtenOdd kept latched marked switched withIrq
-is-ready m n x y = refl
-
--- a clock of the board is one of its unit, in either mode the same move
-moves : (mode : Mode) (m : Mmc3) → clocked mode m .mmc3 .irq ≡ boardClock (m .irq) .irq
-unfolding clocked withIrq clockIn houseClock boardClock nextCounter
-moves Board m = refl
-moves House m = go (m .irq .reload) (eqb (m .irq .counter) 0) refl refl
+-- in either mode the same move
+moves : (mode : Mode) (u : Irq) → clockIn mode u .irq ≡ boardClock u .irq
+unfolding clockIn houseClock boardClock nextCounter
+moves Board u = refl
+moves House u = go (u .reload) (eqb (u .counter) 0) refl refl
   where
-    go : (b z : Bool) → m .irq .reload ≡ b → eqb (m .irq .counter) 0 ≡ z → houseClock (m .irq) .irq ≡ boardClock (m .irq) .irq
+    go : (b z : Bool) → u .reload ≡ b → eqb (u .counter) 0 ≡ z → houseClock u .irq ≡ boardClock u .irq
     go true z e d = simp e
     go false true e d = simp (e, d)
     go false false e d = simp (e, d)
@@ -66,10 +68,10 @@ first : (n c : ℕ) → boardClock (ready n c) .irq ≡ unit n (shown n 0)
 unfolding boardClock nextCounter
 first n c = ap (unit n) (omega (arith, mod-eq-of-lt {n = 0} {m = suc n} (omega arith)))
 
-passes : (mode : Mode) (m : Mmc3) (n c j : ℕ) → m .irq ≡ ready n c → after mode (suc j) m .irq ≡ unit n (shown n j)
-passes mode m n c zero e = moves mode m ∙ ap (λ (i : Irq). boardClock i .irq) e ∙ first n c
-passes mode m n c (suc j) e =
-    moves mode (after mode (suc j) m) ∙ ap (λ (i : Irq). boardClock i .irq) (passes mode m n c j e) ∙ step n j
+passes : (mode : Mode) (n c j : ℕ) → unitAfter mode (suc j) (ready n c) ≡ unit n (shown n j)
+passes mode n c zero = moves mode (ready n c) ∙ first n c
+passes mode n c (suc j) =
+    moves mode (unitAfter mode (suc j) (ready n c)) ∙ ap (λ (i : Irq). boardClock i .irq) (passes mode n c j) ∙ step n j
 
 -- where the row shows 0
 zero-at : (n j : ℕ) → (eqb (shown n j) 0 ≡ true) ↔ (suc n ∣ suc j)
@@ -97,38 +99,30 @@ marked-no : (n c : ℕ) → houseClock (ready n c) .answer ≡ false
 unfolding houseClock
 marked-no n c = refl
 
-clock-answer : (mode : Mode) (m : Mmc3) → clocked mode m .answer ≡ clockIn mode (m .irq) .answer
-unfolding clocked
-clock-answer mode m = refl
-
-module _ (m : Mmc3) (n x y : ℕ) where
-  board-answer : (k : ℕ) → answered Board (suc k) (armed m n x y) ≡ eqb (shown n k) 0
+module _ (n c : ℕ) where
+  board-answer : (k : ℕ) → unitSays Board (suc k) (ready n c) ≡ eqb (shown n k) 0
   unfolding clockIn
   board-answer k =
-      clock-answer Board (after Board k (armed m n x y))
-      ∙ after-it (after Board k (armed m n x y) .irq)
-      ∙ ap (λ (i : Irq). i .enabled && eqb (i .counter) 0) (sym (moves Board (after Board k (armed m n x y))) ∙ passes Board (armed m n x y) n (m .irq .counter) k (is-ready m n x y))
+      after-it (unitAfter Board k (ready n c))
+      ∙ ap (λ (i : Irq). i .enabled && eqb (i .counter) 0) (sym (moves Board (unitAfter Board k (ready n c))) ∙ passes Board n c k)
 
-  house-answer : (k : ℕ) → answered House (suc (suc k)) (armed m n x y) ≡ eqb (shown n k) 0
+  house-answer : (k : ℕ) → unitSays House (suc (suc k)) (ready n c) ≡ eqb (shown n k) 0
   unfolding clockIn
-  house-answer k =
-      clock-answer House (after House (suc k) (armed m n x y))
-      ∙ ap (λ (i : Irq). houseClock i .answer) (passes House (armed m n x y) n (m .irq .counter) k (is-ready m n x y))
-      ∙ before-it n (shown n k)
+  house-answer k = ap (λ (i : Irq). houseClock i .answer) (passes House n c k) ∙ before-it n (shown n k)
 
-  house-first : answered House 1 (armed m n x y) ≡ false
+  house-first : unitSays House 1 (ready n c) ≡ false
   unfolding clockIn
-  house-first = clock-answer House (armed m n x y) ∙ ap (λ (i : Irq). houseClock i .answer) (is-ready m n x y) ∙ marked-no n (m .irq .counter)
+  house-first = marked-no n c
 
   -- board: "After the same three writes clock k answers yes exactly when n + 1 divides k"
-  pub board-clocks : (k : ℕ) → 1 ≤ k → (answered Board k (armed m n x y) ≡ true) ↔ (n + 1 ∣ k)
+  pub board-clocks : (k : ℕ) → 1 ≤ k → (unitSays Board k (ready n c) ≡ true) ↔ (n + 1 ∣ k)
   board-clocks zero h = absurd (omega arith)
   board-clocks (suc k) h =
       let e = board-answer k in
       rw (add-one n) (λ a. zero-at n k .0 (sym e ∙ a), λ d. e ∙ zero-at n k .1 d)
 
   -- house: "clock k (from one) answers yes exactly when k is 2 or more and n + 1 divides k - 1"
-  pub house-clocks : (k : ℕ) → (answered House k (armed m n x y) ≡ true) ↔ ((2 ≤ k) × (n + 1 ∣ k - 1))
+  pub house-clocks : (k : ℕ) → (unitSays House k (ready n c) ≡ true) ↔ ((2 ≤ k) × (n + 1 ∣ k - 1))
   house-clocks zero = (λ e. absurd (false≢true e), λ p. absurd (omega arith))
   house-clocks (suc zero) = (λ e. absurd (false≢true (sym house-first ∙ e)), λ p. absurd (omega arith))
   house-clocks (suc (suc k)) =

@@ -7,6 +7,7 @@ mod Mmc3Ranges
 mod Mmc1Moves
 mod Mmc1Answers
 mod Positions
+mod Arming
 pub mod PLines
 pub mod Clocks
 pub mod PublicClocks
