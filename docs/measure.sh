@@ -4,6 +4,7 @@
 set -uo pipefail
 source "$(dirname "${BASH_SOURCE[0]}")/../tests/need.bash" || exit 2
 cd "$(dirname "${BASH_SOURCE[0]}")/.." || exit 2
+command -v rt >/dev/null || { echo "the Rattle toolchain (rt) is not on this machine's PATH"; exit 2; }
 need "GNU time" time test -x /usr/bin/time || exit 1
 page=docs/BENCHMARKS.md
 grep -q '<!-- size: begin -->' "$page" && grep -q '<!-- size: end -->' "$page" || { echo "$page has no marks for the table"; exit 1; }
@@ -16,16 +17,21 @@ lines() {
     grep -cvE '^[[:space:]]*($|//|--|use |ghost use |unfoldable pub use |(pub )?mod )'
 }
 
-echo "proving what is not proved yet" >&2
-rt check >/dev/null 2>&1 || { echo "rt check fails"; exit 1; }
 work=$(mktemp -d)
 trap 'rm -rf "$work"' EXIT
+failed() { # failed WHAT: with the end of its log
+  tail -n 5 "$work/log" >&2
+  echo "$1 fails" >&2
+  exit 1
+}
+echo "proving what is not proved yet" >&2
+rt check >"$work/log" 2>&1 || failed "rt check"
 code=0 definitions=0 proof=0 seconds=0
 while IFS=: read -r name _; do
   case $name in '' | '#'*) continue ;; esac
   rm -f "target/stamp/$name"
   # rt runs the crate's check as a process of its own, so the greatest process is the check
-  /usr/bin/time -f '%U %S %M' -o "$work/time" rt check "$name" >"$work/log" 2>&1 || { tail -n 3 "$work/log"; exit 1; }
+  /usr/bin/time -f '%U %S %M' -o "$work/time" rt check "$name" >"$work/log" 2>&1 || failed "rt check $name"
   read -r user system memory < <(tail -n 1 "$work/time")
   c=$(lines '*.rt' "crates/$name/src") d=$(lines '*.antt' "crates/$name/specs") p=$(lines '*.antt' "crates/$name/proofs")
   spent=$(awk -v u="$user" -v s="$system" 'BEGIN { printf "%.0f", u + s }')

@@ -1,5 +1,6 @@
 #!/usr/bin/env bash
-# docs/PROMISES.md is true of the tree: every file, definition, theorem and must-fail edit that it names is there.
+# docs/PROMISES.md is true of the tree: every file, definition, theorem and must-fail edit that it names is there, and
+# every function and type that any page names by its crate.
 set -uo pipefail
 cd "$(dirname "${BASH_SOURCE[0]}")/.." || exit 2
 page=docs/PROMISES.md
@@ -46,5 +47,15 @@ while IFS= read -r label; do
   [ -f "crates/${label%%/*}/must-fail/${label#*/}.edit" ] || missing "the edit $label"
 done < <(grep -oE '`[a-z0-9_]+/[a-z0-9_]+`' "$page" | tr -d '\140')
 
-echo "$page: $seen names looked up, $lost missing"
+# `crate::name` and `crate::Type::name`, on every page
+while IFS=: read -r page path; do
+  crate=${path%%::*}
+  [ -d "crates/$crate/src" ] || continue # of the wrapper, or of Rust itself
+  for name in $(tr ':' ' ' <<<"${path#*::}"); do
+    seen=$((seen + 1))
+    grep -qwE "(fn|struct|enum|const|mod) $name" "crates/$crate/src/"*.rt || missing "$path"
+  done
+done < <(grep -oHE '`[a-z0-9_]+(::[A-Za-z0-9_]+)+' README.md docs/*.md | tr -d '\140')
+
+echo "the pages: $seen names looked up, $lost missing"
 [ "$seen" -gt 100 ] && [ "$lost" -eq 0 ]

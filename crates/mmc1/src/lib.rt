@@ -1,4 +1,4 @@
-// MMC1: a serial register and five registers that it loads. Ported from potatis nes/src/mappers/mmc1.rs.
+// MMC1: a serial register and the four registers that it loads. Ported from potatis nes/src/mappers/mmc1.rs.
 ghost use mathlib.Core.Path.{_≡_};
 ghost use Prim.Native.Nat.{_-_, _^_};
 ghost use Rattle.mmc1.specs.Write.{shifted, entered, registerAt, controlMirroring, mirrorsOf, controlled, withChr0, withChr1, withPrg, houseChr0, houseChr1, houseLoad, boardLoad, load, reset, resetAll, kept, completed, shiftedIn, serialWrite, written};

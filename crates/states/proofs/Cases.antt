@@ -6,6 +6,7 @@ use native.Mathlib.Omega.{arith}
 use borrow.Author.Tests.{ltb-true, eqb-true}
 use lib.Dec.{ltb, eqb}
 use Rattle.rules.proofs.Bools.{split-3}
+use Rattle.common.specs.Common.{modeNumber}
 use Rattle.common.specs.declared.Mode.{Mode}
 use Rattle.common.specs.declared.Mode.the-variants.{House, Board as OnBoard}
 use Rattle.cartridge.specs.Answers.{mapperNumber}
@@ -15,21 +16,21 @@ use Rattle.cartridge.specs.declared.Mirroring.{Mirroring}
 use Rattle.cartridge.specs.declared.Mirroring.the-variants.{Horizontal, Vertical, SingleScreenUpper, SingleScreenLower}
 use Rattle.mmc1.specs.Range as mmc1
 use Rattle.mmc1.specs.declared.Serial.{Serial}
-use Rattle.states.specs.Words.{modeDigit, modeOf, mirroringDigit, mirroringOf, bit, serialDigit, serialOf}
+use Rattle.states.specs.Words.{modeOf, mirroringDigit, mirroringOf, bit, serialDigit, serialOf}
 use Rattle.states.specs.Kept.{mapperIn}
 use Rattle.states.specs.declared.Words.{Words}
 use Rattle.states.proofs.Ranges.{four, all-below, at}
 
-pub mode-small : (m : Mode) → modeDigit m < 2
+pub mode-small : (m : Mode) → modeNumber m < 2
 mode-small House = omega arith
 mode-small OnBoard = omega arith
 
-pub mode-there : (m : Mode) → modeOf (modeDigit m) ≡ m
+pub mode-there : (m : Mode) → modeOf (modeNumber m) ≡ m
 unfolding modeOf
 mode-there House = refl
 mode-there OnBoard = refl
 
-pub mode-back : (d : ℕ) → d < 2 → modeDigit (modeOf d) ≡ d
+pub mode-back : (d : ℕ) → d < 2 → modeNumber (modeOf d) ≡ d
 unfolding modeOf
 mode-back zero h = refl
 mode-back (suc zero) h = refl

@@ -9,6 +9,7 @@ use borrow.Author.Tests.{ltb-true, eqb-true, lt-ltb, eq-eqb}
 use lib.Dec.{ltb, leb, eqb}
 use lib.ListN.{length}
 use Rattle.rules.proofs.Bools.{and-left, and-right, and-both, split-3, split-4, split-5}
+use Rattle.common.specs.Common.{modeNumber}
 use Rattle.cartridge.specs.Answers.{mapperNumber}
 use Rattle.cartridge.specs.Load.{badPrg, oddCounts, needed, isHeaders, couldLoad}
 use Rattle.cartridge.specs.declared.Cartridge.{Cartridge}
@@ -24,7 +25,7 @@ use Rattle.mmc3.specs.Read.{register}
 use Rattle.mmc3.specs.declared.Mmc3 as mmc3-type
 use Rattle.boards.specs.Range.{inRange, registersIn, registersFit, mirroringFits}
 use Rattle.boards.specs.declared.Board.{Board}
-use Rattle.states.specs.Words.{modeDigit, modeOf, mirroringDigit, mirroringOf, bit, serialDigit, serialOf, cartWord, cartAs, screensIn, banksWord, mmc1In, rowOf, regsWord, irqWord, mmc3In, boardAs, wordsOf}
+use Rattle.states.specs.Words.{modeOf, mirroringDigit, mirroringOf, bit, serialDigit, serialOf, cartWord, cartAs, screensIn, banksWord, mmc1In, rowOf, regsWord, irqWord, mmc3In, boardAs, wordsOf}
 use Rattle.states.specs.Kept.{mapperIn, boardIn, cartIsWhole, restIsWhole, isKept}
 use Rattle.states.specs.RoundTrip.{OfItsTypes, OfWords}
 use Rattle.states.specs.declared.Words.{Words}
@@ -46,10 +47,10 @@ counts c h =
 
 -- word 0 of a board
 cart-there : (c : Cartridge) (m : Mirroring) → couldLoad c ≡ true
-    → CartDigits (cartWord c m) (modeDigit (c .mode)) (bit (c .nes2)) (mapperNumber (c .mapper)) (mirroringDigit (c .mirroring)) (c .prg) (c .chr) (mirroringDigit m)
+    → CartDigits (cartWord c m) (modeNumber (c .mode)) (bit (c .nes2)) (mapperNumber (c .mapper)) (mirroringDigit (c .mirroring)) (c .prg) (c .chr) (mirroringDigit m)
 unfolding cartWord
 cart-there c m h =
-    cart-digits (modeDigit (c .mode)) (bit (c .nes2)) (mapperNumber (c .mapper)) (mirroringDigit (c .mirroring)) (c .prg) (c .chr) (mirroringDigit m)
+    cart-digits (modeNumber (c .mode)) (bit (c .nes2)) (mapperNumber (c .mapper)) (mirroringDigit (c .mirroring)) (c .prg) (c .chr) (mirroringDigit m)
     (mode-small (c .mode)) (mark-small (c .nes2)) (mapper-small (c .mapper)) (screens-small (c .mirroring)) (counts c h .0) (counts c h .1) (screens-small m)
 
 cart-is : (b : Board) → couldLoad (b .cart) ≡ true → (k : MapperType) → b .cart .mapper ≡ k → cartAs k (wordsOf b) ≡ b .cart

@@ -3,6 +3,7 @@ use Prim.Native.Nat.{ℕ, _+_, _-_, _*_, _/_, _%_}
 use mathlib.Core.Bool.{Bool, cond}
 use mathlib.Core.List.{[], _∷_}
 use lib.Dec.{ltb, eqb}
+use Rattle.common.specs.Common.{modeNumber}
 use Rattle.common.specs.declared.Mode.{Mode}
 use Rattle.common.specs.declared.Mode.the-variants.{House, Board as OnBoard}
 use Rattle.cartridge.specs.Answers.{mapperNumber}
@@ -23,11 +24,6 @@ use Rattle.mmc3.specs.Read.{register}
 use Rattle.mmc3.specs.declared.Mmc3 as mmc3-type
 use Rattle.boards.specs.declared.Board.{Board}
 use Rattle.states.specs.declared.Words.{Words}
-
--- the mode's digit: 0 house, 1 board
-abbrev pub modeDigit : Mode → ℕ
-modeDigit House = 0
-modeDigit OnBoard = 1
 
 -- the mode of a digit
 unfoldable pub modeOf : ℕ → Mode
@@ -71,7 +67,7 @@ serialOf n =
 -- word 0: mode 2, NES 2.0 mark 2, mapper 16, header mirroring 4, PRG count 256, CHR count 256, current mirroring 4
 unfoldable pub cartWord : Cartridge → Mirroring → ℕ
 cartWord c m =
-    modeDigit (c .mode) + bit (c .nes2) * 2 + mapperNumber (c .mapper) * 4 + mirroringDigit (c .mirroring) * 64 + c .prg * 0x100
+    modeNumber (c .mode) + bit (c .nes2) * 2 + mapperNumber (c .mapper) * 4 + mirroringDigit (c .mirroring) * 64 + c .prg * 0x100
     + c .chr * 0x10000
     + mirroringDigit m * 0x1000000
 

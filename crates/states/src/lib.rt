@@ -2,7 +2,7 @@
 // call looks only at the words of its own board: most ranges hold by the width of a digit.
 ghost use mathlib.Core.Path.{_≡_};
 ghost use Rattle.cartridge.specs.declared.MapperType.the-variants.{Nrom as OnNrom, Mmc1 as OnMmc1, Uxrom as OnUxrom, Cnrom as OnCnrom, Mmc3 as OnMmc3};
-ghost use Rattle.states.specs.Words.{modeOf, mirroringOf, modeDigit, mirroringDigit, bit, serialOf, serialDigit, cartAs, screensIn, mmc1In, mmc3In, boardAs, cartWord, banksWord, rowOf, regsWord, irqWord, wordsOf};
+ghost use Rattle.states.specs.Words.{modeOf, mirroringOf, mirroringDigit, bit, serialOf, serialDigit, cartAs, screensIn, mmc1In, mmc3In, boardAs, cartWord, banksWord, rowOf, regsWord, irqWord, wordsOf};
 ghost use Rattle.states.specs.Kept.{cartIsWhole, isKept};
 ghost use Rattle.states.specs.Steps.{sameScreens, screensWithin, divides128, oddIn, couldLoadUpTo};
 use boards::Board;
@@ -43,15 +43,6 @@ fn mirroring_of(digit: u64) -> Mirroring
         Mirroring::SingleScreenUpper
     } else {
         Mirroring::SingleScreenLower
-    }
-}
-
-fn mode_digit(mode: Mode) -> u8
-    ensures { λ r. ⌜ r ≡ modeDigit mode ⌝ }
-{
-    match mode {
-        Mode::House => 0,
-        Mode::Board => 1,
     }
 }
 
@@ -366,7 +357,7 @@ fn cart_word(cart: Cartridge, screens: Mirroring) -> u64
     let mode = cart.mode;
     let mapper = cart.mapper;
     let header = cart.mirroring;
-    (mode_digit(mode) as u64)
+    (mode.number() as u64)
         + (bit(cart.nes2) as u64) * 2
         + (mapper.number() as u64) * 4
         + (mirroring_digit(header) as u64) * 64

@@ -33,4 +33,4 @@ cart-word-spec =
     (λ c. search picks)
     (λ c. search picks)
     (λ c. search picks)
-    (λ c. simp (c .mirroring-digit2 .ensures, c .before .before .before .mirroring-digit .ensures, c .before .before .before .before .number .ensures, c .before .before .before .before .before .bit .ensures, c .before .before .before .before .before .before .mode-digit .ensures)))
+    (λ c. simp (c .mirroring-digit2 .ensures, c .before .before .before .mirroring-digit .ensures, c .before .before .before .before .number2 .ensures, c .before .before .before .before .before .bit .ensures, c .before .before .before .before .before .before .number .ensures)))
