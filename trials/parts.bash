@@ -1,4 +1,4 @@
-# The inputs that the fuzzer starts from. Sourced by fuzz.sh.
+# What fuzz.sh and tests/trials.sh share: the inputs that they start from, the names of what they link, the faults.
 
 # bytes HEX..: those bytes.
 bytes() {
@@ -18,8 +18,10 @@ history() {
     echo "${write}800080"
     serial 8000 0
     serial E000 7
+    serial C000 9
     echo "${read}8000${read}C000"
     serial 8000 28
+    echo "${read}1000"
     serial A000 31
     serial C000 30
     ;;
@@ -54,4 +56,32 @@ seeds() {
   done
   # a read of the image's last byte
   bytes 00 00 010100"${zeros:0:18}" 000000 001FFF >"$1/seed-last-byte"
+}
+
+# shipped_beside LIBRARY TO: the shipped library with the names that calls.c has for it.
+shipped_beside() {
+  local name renamed=()
+  for name in header load read write clock; do renamed+=(--redefine-sym "biekkarul_$name=shipped_$name"); done
+  objcopy "${renamed[@]}" "$1" "$2"
+}
+
+# tracerun_within OBJECT TO: tracerun's machine code with the names that traces.c has for its main, its reads and its writes.
+tracerun_within() {
+  objcopy --redefine-sym main=tracerun_main --redefine-sym read=tracerun_read --redefine-sym write=tracerun_write "$1" "$2"
+}
+
+# faults: the lines of faults.txt that are one.
+faults() { grep -v -e '^#' -e '^$' trials/faults.txt; }
+
+# fault: reads one of them into old and new, and puts it into a copy of the model in $work/fault. Fails at the end.
+fault() {
+  local line
+  IFS= read -r line || return 1
+  old=${line%% => *} new=${line#* => }
+  OLD=$old NEW=$new awk '
+    { at = index($0, ENVIRON["OLD"]) }
+    at { found++; $0 = substr($0, 1, at - 1) ENVIRON["NEW"] substr($0, at + length(ENVIRON["OLD"])) }
+    { print }
+    END { exit found != 1 }' trials/model.h >"$work/fault/model.h" ||
+    { echo "stands not once in trials/model.h: $old"; exit 1; }
 }

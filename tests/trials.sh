@@ -1,0 +1,46 @@
+#!/usr/bin/env bash
+# The trials of trials/ without fuzzer and sanitizer: the shipped library and tracerun's own machine code against the
+# model of the boards in C, over the fuzzer's first inputs and many that chance makes of them; and each fault of
+# trials/faults.txt, put into the model, is found. Runs after `rt ci`, which leaves target/obj/tracerun.o.
+set -uo pipefail
+source "$(dirname "${BASH_SOURCE[0]}")/need.bash" || exit 2
+cd "$(dirname "${BASH_SOURCE[0]}")/.." || exit 2
+source trials/parts.bash || exit 2
+
+need_c || exit 1
+need objcopy binutils command -v objcopy || exit 1
+folder=$(library_folder) || exit 1
+[ -f target/obj/tracerun.o ] || { echo "target/obj/tracerun.o is not there: run rt check tracerun first"; exit 2; }
+work=$(mktemp -d)
+trap 'rm -rf "$work"' EXIT
+
+shipped_beside "$folder/libexports.a" "$work/beside.a" && tracerun_within target/obj/tracerun.o "$work/tracerun.o" || exit 1
+mkdir "$work/calls" "$work/traces" && seeds "$work/calls" "$work/traces" || exit 1
+
+built() { # built NAME SOURCE WORDS..
+  local name=$1 source=$2
+  shift 2
+  gcc -O1 -std=c11 -Wall -Wextra -Werror -Iinclude -o "$work/$name" "$source" trials/plain.c "$@" ||
+    { echo "$source does not build"; exit 1; }
+}
+built calls-trial trials/calls.c "$folder/libexports.a" "$work/beside.a"
+built traces-trial trials/traces.c "$work/tracerun.o"
+
+for name in calls traces; do
+  "$work/$name-trial" 20000 "$work/$name"/* >"$work/log" 2>&1 || { cat "$work/log"; echo "$name: not as the model says"; exit 1; }
+  echo "$name: $(cat "$work/log") as the model says"
+done
+
+mkdir "$work/fault" && cp trials/calls.c trials/lent.h "$work/fault" || exit 1
+found=0
+while fault; do
+  built faulty "$work/fault/calls.c" "$folder/libexports.a" "$work/beside.a"
+  # within brackets, so that the shell's word of its end goes to the log too
+  if ("$work/faulty" 20000 "$work/calls"/*; exit) >"$work/log" 2>&1 || ! grep -q '^broken at ' "$work/log"; then
+    echo "not found: $old => $new"
+    exit 1
+  fi
+  found=$((found + 1))
+done < <(faults)
+[ "$found" -ge 20 ] || { echo "only $found faults"; exit 1; }
+echo "$found faults put into the model, each found"
