@@ -3,12 +3,20 @@ use Prim.Native.Nat.{ℕ, _+_, _*_, _≤_}
 use mathlib.Core.Path.{_≡_}
 use mathlib.Core.List.{List}
 use lib.ListN.{length}
-use Rattle.traces.specs.Format.{imageOf, eventAt}
+use Rattle.memory.specs.Memory.{byte}
+use Rattle.traces.specs.Format.{big2, imageOf, eventStart, eventAt}
 use Rattle.traces.specs.Text.{line, laid}
 use Rattle.traces.specs.Run.{State, state, said, moved, after, lines}
 use Rattle.traces.specs.declared.Event.{Event}
+use Rattle.traces.specs.declared.Fields.{Fields}
 use Rattle.traces.specs.declared.Played.{Played}
 use Rattle.traces.specs.declared.Step.{Step}
+
+-- the four bytes of event i
+unfoldable pub fieldsAt : List ℕ → ℕ → Fields
+fieldsAt t i =
+    let s = eventStart t i in
+    record { kind = byte t s; address = big2 (byte t (s + 1)) (byte t (s + 2)); value = byte t (s + 3) }
 
 -- there is room for k bytes more: no count of bytes comes near the greatest number
 abbrev pub Room : ℕ → ℕ → Type 0

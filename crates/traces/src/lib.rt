@@ -7,7 +7,7 @@ ghost use lib.ListN.{length};
 ghost use Rattle.traces.specs.Format.{big2, big4, imageLength, modeIn, modeOf, imageOf, eventCount, eventStart, eventOf, eventAt, isEvent, fitsAt, eventsFit, headFits, isTrace};
 ghost use Rattle.traces.specs.Text.{digit, fiveDigits, leading, decimal, hexDigit, hex, refusal, readText, noticeText, writeText, clockText, letter, answerText, between, line, refusedLine, counts, loadLine};
 ghost use Rattle.traces.specs.Run.{state, played, loadedRun, traceRun, ran, RunOwes};
-ghost use Rattle.traces.specs.Steps.{Room, Puts, PlayOwes, StepOwes, EventsOwe};
+ghost use Rattle.traces.specs.Steps.{fieldsAt, Room, Puts, PlayOwes, StepOwes, EventsOwe};
 use boards::Board;
 use boards::ClockAnswer;
 use boards::LoadAnswer;
@@ -22,6 +22,13 @@ pub enum Event {
     Read(u16),
     Write(u16, u8),
     Clock,
+}
+
+// The four bytes of an event.
+pub struct Fields {
+    pub kind: u8,
+    pub address: u16,
+    pub value: u8,
 }
 
 pub enum Answer {
@@ -113,15 +120,26 @@ fn event_of(kind: u8, address: u16, value: u8) -> Event
     }
 }
 
-fn event_at(trace: &[u8], i: u16) -> Event
-    ensures { λ r. ⌜ r ≡ eventAt (now (trace .entry)) i ⌝ }
+fn fields_at(trace: &[u8], i: u16) -> Fields
+    ensures { λ r. ⌜ r ≡ fieldsAt (now (trace .entry)) i ⌝ }
 {
     let start = event_start(trace, i);
     let kind = memory::byte_at(trace, start);
     let high = memory::byte_at(trace, start + 1);
     let low = memory::byte_at(trace, start + 2);
     let value = memory::byte_at(trace, start + 3);
-    event_of(kind, big_2(high, low), value)
+    Fields {
+        kind,
+        address: big_2(high, low),
+        value,
+    }
+}
+
+fn event_at(trace: &[u8], i: u16) -> Event
+    ensures { λ r. ⌜ r ≡ eventAt (now (trace .entry)) i ⌝ }
+{
+    let fields = fields_at(trace, i);
+    event_of(fields.kind, fields.address, fields.value)
 }
 
 fn is_event(kind: u8, address: u16, value: u8) -> bool
@@ -133,12 +151,8 @@ fn is_event(kind: u8, address: u16, value: u8) -> bool
 fn fits_at(trace: &[u8], i: u16) -> bool
     ensures { λ r. ⌜ r ≡ fitsAt (now (trace .entry)) i ⌝ }
 {
-    let start = event_start(trace, i);
-    let kind = memory::byte_at(trace, start);
-    let high = memory::byte_at(trace, start + 1);
-    let low = memory::byte_at(trace, start + 2);
-    let value = memory::byte_at(trace, start + 3);
-    is_event(kind, big_2(high, low), value)
+    let fields = fields_at(trace, i);
+    is_event(fields.kind, fields.address, fields.value)
 }
 
 fn events_fit(trace: &[u8], count: u16) -> bool
