@@ -31,7 +31,7 @@ while IFS=: read -r name _; do
   case $name in '' | '#'*) continue ;; esac
   rm -f "target/stamp/$name"
   # rt runs the crate's check as a process of its own, so the greatest process is the check
-  /usr/bin/time -f '%U %S %M' -o "$work/time" rt check "$name" >"$work/log" 2>&1 || failed "rt check $name"
+  /usr/bin/time -f '%U %S %M' -o "$work/time" rt check "$name" </dev/null >"$work/log" 2>&1 || failed "rt check $name"
   read -r user system memory < <(tail -n 1 "$work/time")
   c=$(lines '*.rt' "crates/$name/src") d=$(lines '*.antt' "crates/$name/specs") p=$(lines '*.antt' "crates/$name/proofs")
   spent=$(awk -v u="$user" -v s="$system" 'BEGIN { printf "%.0f", u + s }')
@@ -45,5 +45,5 @@ done <crates.txt >"$work/rows"
   cat "$work/rows"
   echo "| all | $code | $definitions | $proof | $seconds | |"
 } >"$work/table"
-sed -i -e "/<!-- size: begin -->/,/<!-- size: end -->/{/<!-- size: begin -->/r $work/table" -e '/<!-- size: /!d}' "$page"
+sed -i -e "/<!-- size: begin -->/,/<!-- size: end -->/{/<!-- size: begin -->/r $work/table" -e '/<!-- size: /!d}' "$page" || exit 1
 echo "$page: $code lines of code, $definitions of definitions, $proof of proof"

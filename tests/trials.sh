@@ -1,8 +1,9 @@
 #!/usr/bin/env bash
 # The trials of trials/ without fuzzer and sanitizer: the shipped library and tracerun's own machine code against the
 # model of the boards in C, over the fuzzer's first inputs and many that chance makes of them; and each fault of
-# trials/faults.txt, put into the model, is found. Runs after `rt ci`, which leaves target/obj/tracerun.o.
+# trials/faults.txt, put into the model under the calls, is found. Here calls.c has the shipped library on both sides.
 set -uo pipefail
+export LC_ALL=C # one order of the files
 source "$(dirname "${BASH_SOURCE[0]}")/need.bash" || exit 2
 cd "$(dirname "${BASH_SOURCE[0]}")/.." || exit 2
 source trials/parts.bash || exit 2
@@ -10,7 +11,7 @@ source trials/parts.bash || exit 2
 need_c || exit 1
 need objcopy binutils command -v objcopy || exit 1
 folder=$(library_folder) || exit 1
-[ -f target/obj/tracerun.o ] || { echo "target/obj/tracerun.o is not there: run rt check tracerun first"; exit 2; }
+is_fresh target/obj/tracerun.o || rt check tracerun >/dev/null 2>&1 || { echo "rt check tracerun does not make the program"; exit 1; }
 work=$(mktemp -d)
 trap 'rm -rf "$work"' EXIT
 

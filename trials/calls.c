@@ -2,8 +2,8 @@
  * A trial of the exported functions through include/biekkarul.h. An input is a header, lengths and a list of
  * calls on one board; it may also put any bytes into the state. Each call is made twice, on buffers of its own:
  * of the library that the sanitizer watches, and of the library as it is shipped, whose functions are here as
- * shipped_load and so on. Both are held to what biekkarul.h promises and, from an accepted load on until the input
- * spoils the state, to the model.
+ * shipped_load and so on (in the gate, without the sanitizer, both are the shipped one). They are held to what
+ * biekkarul.h promises and, from an accepted load on until the input spoils the state, to the model.
  */
 #include "model.h"
 
@@ -133,14 +133,23 @@ static void do_load(unsigned mode) {
     }
 }
 
-static void do_read(unsigned address) {
+/* What a read or a write with an image of this length is refused with before its board is asked, 0 for nothing. */
+static unsigned wanted_first(size_t lent_length) {
+    int rams_right = prg_length == BIEKKARUL_RAM_LENGTH && chr_length == BIEKKARUL_RAM_LENGTH;
+    return refused_first(rams_right, state_length == BIEKKARUL_STATE_LENGTH, reached && lent_length != image_length);
+}
+
+static void do_read(unsigned address, size_t lent_length) {
     struct board *a = &first, *b = &second;
-    unsigned answer = biekkarul_read(a->state, state_length, image, image_length, a->prg_ram, prg_length, a->chr_ram,
+    unsigned wanted = wanted_first(lent_length);
+    unsigned answer = biekkarul_read(a->state, state_length, image, lent_length, a->prg_ram, prg_length, a->chr_ram,
                                      chr_length, (uint16_t)address);
-    MUST(answer == shipped_read(b->state, state_length, image, image_length, b->prg_ram, prg_length, b->chr_ram,
+    MUST(answer == shipped_read(b->state, state_length, image, lent_length, b->prg_ram, prg_length, b->chr_ram,
                                 chr_length, (uint16_t)address));
     MUST(refused(answer, READ_REFUSALS) || (lengths_right() && answer < 256));
-    MUST(!reached || answer == model_read(&model, image, address));
+    if (reached && wanted == 0) wanted = model_read(&model, image, address);
+    MUST(wanted == 0 || answer == wanted);
+    MUST(!reached || answer == wanted);
     MUST(same(&first, &before));
 }
 
@@ -149,11 +158,12 @@ static int is_notice(unsigned answer) {
            answer == BIEKKARUL_LOWER;
 }
 
-static void do_write(unsigned address, unsigned value) {
+static void do_write(unsigned address, unsigned value, size_t lent_length) {
     struct board *a = &first, *b = &second;
-    unsigned answer = biekkarul_write(a->state, state_length, image, image_length, a->prg_ram, prg_length, a->chr_ram,
+    unsigned wanted = wanted_first(lent_length);
+    unsigned answer = biekkarul_write(a->state, state_length, image, lent_length, a->prg_ram, prg_length, a->chr_ram,
                                       chr_length, (uint16_t)address, (uint8_t)value);
-    MUST(answer == shipped_write(b->state, state_length, image, image_length, b->prg_ram, prg_length, b->chr_ram,
+    MUST(answer == shipped_write(b->state, state_length, image, lent_length, b->prg_ram, prg_length, b->chr_ram,
                                  chr_length, (uint16_t)address, (uint8_t)value));
     if (refused(answer, WRITE_REFUSALS)) {
         MUST(same(&first, &before));
@@ -164,8 +174,9 @@ static void do_write(unsigned address, unsigned value) {
              1);
         MUST(address < 0x8000 || changed(before.prg_ram, first.prg_ram, prg_length) == 0);
     }
+    MUST(wanted == 0 || answer == wanted);
     if (reached) {
-        MUST(answer == model_write(&model, address, value));
+        MUST(wanted != 0 || answer == model_write(&model, address, value));
         rams_as_the_model_has();
     }
 }
@@ -174,6 +185,7 @@ static void do_clock(void) {
     unsigned answer = biekkarul_clock(first.state, state_length);
     MUST(answer == shipped_clock(second.state, state_length));
     MUST(refused(answer, BIT(10)) ? same(&first, &before) : answer <= 1);
+    MUST(state_length == BIEKKARUL_STATE_LENGTH || answer == REFUSED(10));
     MUST(!reached || answer == model_clock(&model));
 }
 
@@ -206,27 +218,41 @@ static void spoil(unsigned place, unsigned value) {
     reached = 0;
 }
 
+/* Bit 6 of a call's byte: the image is lent a byte shorter than it was loaded. */
+#define SHORTER_IMAGE 0x40
+/* Bit 7: the rarer one of two kinds. */
+#define RARER 0x80
+
 static void one_call(struct input *in) {
     unsigned kind = take(in), address, value;
+    size_t lent_length = kind & SHORTER_IMAGE && image_length > 0 ? image_length - 1 : image_length;
     copy(&before, &first);
     switch (kind % 8) {
     case 0:
-    case 1: do_read(take2(in)); break;
+    case 1: do_read(take2(in), lent_length); break;
     case 2:
     case 3:
     case 4:
         address = take2(in);
         value = take(in);
-        do_write(address, value);
+        do_write(address, value, lent_length);
         break;
-    case 5: do_clock(); break;
     case 6:
-        if (kind & 0x80) spoil(take(in), take(in));
-        else do_header(take(in));
+        address = take(in);
+        if (kind & RARER) {
+            value = take(in);
+            spoil(address, value);
+        } else {
+            do_header(address);
+        }
         break;
-    default:
-        if (kind & 0x80) do_load(take(in));
-        else do_clock();
+    case 7:
+        if (kind & RARER) {
+            do_load(take(in));
+            break;
+        }
+        /* fall through */
+    default: do_clock();
     }
     MUST(same(&first, &second));
 }

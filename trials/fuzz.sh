@@ -28,6 +28,7 @@ links_with_sanitizers() { clang -fsanitize=fuzzer,address,undefined -x c -o /dev
   int LLVMFuzzerTestOneInput(const uint8_t *bytes, size_t length) { return bytes == 0 && length; }'; }
 need clang clang command -v clang || exit 1
 need objcopy binutils command -v objcopy || exit 1
+need llvm-symbolizer llvm command -v llvm-symbolizer || exit 1
 version=$(clang -dumpversion) || exit 1
 need "clang's sanitizers" "libclang-rt-${version%%.*}-dev" links_with_sanitizers || exit 1
 
@@ -80,7 +81,8 @@ instrumented() {
     grep -q '^attributes #0 = .* sanitize_address' "$work/$1.ll" &&
     "$native/bin/clang" "${words[@]}" -c -fPIC -O3 -fsanitize=address \
       -fsanitize-coverage=inline-8bit-counters,pc-table,trace-cmp -o "$work/$1.o" "$work/$1.ll" &&
-    nm "$work/$1.o" | grep -q __sanitizer_cov_8bit_counters_init && nm "$work/$1.o" | grep -q __asan_report_load ||
+    nm "$work/$1.o" | grep -q __sanitizer_cov_8bit_counters_init && nm "$work/$1.o" | grep -q __asan_report_load &&
+    nm "$work/$1.o" | grep -q __asan_report_store && ! grep '^define ' "$work/$1.ll" | grep -qv ' #0 ' ||
     { echo "the module of $1 cannot be instrumented"; return 1; }
 }
 
@@ -116,11 +118,11 @@ fi
 # One fault after another: the inputs kept so far first, then up to a minute of new ones.
 find_faults() {
   local count=0 missed=0
-  mkdir -p "$work/fault" && cp trials/calls.c trials/lent.h "$work/fault" || return
+  rm -rf "$work/fault" && mkdir -p "$work/fault/new" && cp trials/calls.c trials/lent.h "$work/fault" || return
   while fault; do
     count=$((count + 1))
     linked faulty "$work/fault/calls.c" "$work/exports.o" "$work/beside.a" || return
-    if "$work/faulty" -max_total_time=60 -max_len=1024 -artifact_prefix="$work/fault/" "$work/corpus/calls" >"$work/fault/log" 2>&1 ||
+    if "$work/faulty" -max_total_time=60 -max_len=1024 -artifact_prefix="$work/fault/" "$work/fault/new" "$work/corpus/calls" >"$work/fault/log" 2>&1 ||
       ! grep -q '^broken at ' "$work/fault/log"; then
       echo "not found: $old => $new"
       missed=$((missed + 1))

@@ -42,6 +42,14 @@ static unsigned load_answer(const uint8_t *image, size_t length, unsigned board_
     return 0;
 }
 
+/* What is refused in every call of a loaded board, 0 where nothing is: "In read and write: 9, 10". */
+static inline unsigned refused_first(int rams_right, int state_right, int other_image) {
+    if (!rams_right) return REFUSED(9);
+    if (!state_right) return REFUSED(10);
+    if (other_image) return REFUSED(10);
+    return 0;
+}
+
 static void model_load(struct model *m, const uint8_t *image, unsigned board_mode) {
     memset(m, 0, sizeof *m);
     m->board_mode = board_mode;

@@ -42,19 +42,25 @@ seeds() {
   for mapper in 0 1 2 3 4; do
     byte6=$(printf '%02X' $((mapper * 16)))
     for mode in 00 01; do
-      for counts in 0100 0101 0202 0402 4040; do
+      for counts in 0100 0101 0202 0300 0402 4040 8080; do
         # mode, choice of the image's length, header, choices of three lengths
         bytes "$mode" 00 "$counts$byte6${zeros:0:18}" 000000 "$(history "$mapper" 00 02 05)" >"$1/seed-$mapper-$mode-$counts"
-        # form, choice of the image's length, mode, header
+      done
+      for counts in 0100 0101 0103 0200 0201; do # 40,976 bytes at most
+        # form, choice of what is spoilt, mode, header
         bytes 00 00 "$mode" "$counts$byte6${zeros:0:18}" "$(history "$mapper" 00 01 02)" >"$2/seed-$mapper-$mode-$counts"
       done
     done
   done
-  for choice in F0 F1 F2 F3 F4 F5 F6 F7; do # a few bytes too few or too many
-    bytes 00 "$choice" 010000"${zeros:0:18}" 000000 >"$1/seed-length-$choice"
-    bytes 00 "$choice" 00 010000"${zeros:0:18}" >"$2/seed-length-$choice"
+  for choice in EB EC ED EE EF F0 F1 F2 F3 F4 F5 F6 F7 F8 F9; do # what the choices spoil
+    bytes 00 "$choice" 010000"${zeros:0:18}" 000000 408000 428000FF >"$1/seed-choice-$choice"
+    bytes 00 "$choice" 00 010000"${zeros:0:18}" 008000 01800002 >"$2/seed-choice-$choice"
   done
-  # a read of the image's last byte
+  bytes 00 00 010000"${zeros:0:18}" F30000 008000 01800000 05 >"$1/seed-state-length"
+  bytes 00 00 010000"${zeros:0:18}" 00F300 008000 01800000 05 >"$1/seed-prg-length"
+  bytes 00 00 010000"${zeros:0:18}" 0000F3 008000 01800000 05 >"$1/seed-chr-length"
+  # an image lent a byte shorter than it was loaded, and a read of the image's last byte
+  bytes 00 00 010100"${zeros:0:18}" 000000 408000 428000FF >"$1/seed-other-length"
   bytes 00 00 010100"${zeros:0:18}" 000000 001FFF >"$1/seed-last-byte"
 }
 
@@ -83,5 +89,5 @@ fault() {
     at { found++; $0 = substr($0, 1, at - 1) ENVIRON["NEW"] substr($0, at + length(ENVIRON["OLD"])) }
     { print }
     END { exit found != 1 }' trials/model.h >"$work/fault/model.h" ||
-    { echo "stands not once in trials/model.h: $old"; exit 1; }
+    { echo "does not stand on just one line of trials/model.h: $old"; exit 1; }
 }

@@ -37,7 +37,10 @@ static size_t read_file(const char *name, uint8_t *bytes) {
 /* A few bytes of an input changed, and some calls more. */
 static size_t changed_input(uint8_t *bytes, size_t length) {
     unsigned changes = below(6), more = below(MOST_MORE);
-    while (changes-- > 0 && length > 0) bytes[below((unsigned)length)] = (uint8_t)below(256);
+    while (changes-- > 0 && length > 0) {
+        unsigned place = below((unsigned)length);
+        bytes[place] = (uint8_t)below(256);
+    }
     while (more-- > 0) bytes[length++] = (uint8_t)below(256);
     return length;
 }

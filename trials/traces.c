@@ -121,10 +121,10 @@ static void put_number(size_t n, unsigned bytes) {
     while (bytes-- > 0) put((unsigned)(n >> 8 * bytes) & 255);
 }
 
-/* One event of four bytes; an odd kind is kept as it is, so that bad events come too. */
-static void put_event(struct input *in) {
+/* One event of four bytes; where bad ones may come, an odd kind is kept as it is. */
+static void put_event(struct input *in, int may_be_bad) {
     unsigned kind = take(in), address = 0, value = 0;
-    if (kind < 248) kind %= 3;
+    if (!may_be_bad || kind < 248) kind %= 3;
     if (kind != 2) address = take2(in);
     if (kind == 1 || kind > 2) value = take(in);
     put(kind);
@@ -161,10 +161,11 @@ static void describe(struct input *in) {
     trace_length += image_length;
     count_place = trace_length;
     put_number(0, 2);
-    for (; in->left > 0 && trace_length + 4 <= MOST_TRACE; count++) put_event(in);
+    for (; in->left > 0 && trace_length + 4 <= MOST_TRACE; count++) put_event(in, choice == 236);
     trace[count_place] = (uint8_t)(count >> 8);
     trace[count_place + 1] = (uint8_t)count;
-    if (choice == 238) put(take(in));
+    if (choice == 238) put(0);
+    if (choice == 235) trace_length--;
 }
 
 int LLVMFuzzerTestOneInput(const uint8_t *bytes, size_t length) {

@@ -275,7 +275,7 @@ pub extern "C" fn biekkarul_read(
     }
 }
 
-// The place, unless the state is no board's.
+// The place, unless the state is no board's or the image is another.
 fn kept_place(fits: bool, place: Place) -> Place
     ensures { λ r. ⌜ r ≡ keptPlace fits place ⌝ }
 {

@@ -17,7 +17,7 @@ pub record Plays (mode : Mode) (b : Board) : Type 0 where
   pub is-mmc3 : b .cart .mapper ≡ Mmc3
   pub in-range : inRange b ≡ true
 
--- "With latch n, reload and enable written": such a board after them, in whatever order they were
+-- "With latch n, reload and enable written": such a board after them
 pub record Ready (mode : Mode) (n : ℕ) (b : Board) : Type 0 where
   pub plays : Plays mode b
   pub latch : b .mmc3 .irq .latch ≡ n

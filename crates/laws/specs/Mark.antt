@@ -1,4 +1,4 @@
--- "Byte 7 AND 0C equal to 08 marks NES 2.0; it is recorded and changes nothing": two boards, or two headers, that differ in the mark alone.
+-- "Byte 7 AND 0C equal to 08 marks NES 2.0; it is recorded and changes nothing": two boards that differ in the mark alone, and two headers with byte 7 the same but for its low nibble.
 use Prim.Native.Nat.{ℕ}
 use mathlib.Core.Path.{_≡_}
 use mathlib.Core.Bool.{Bool}
@@ -52,7 +52,7 @@ withByte7 h v =
       flags15 = h .flags15;
     }
 
--- a load whose byte 7 has another low nibble: the same verdict, and the same board, but for the mark
+-- what a load makes of a header whose byte 7 has another low nibble: the same verdict, and the same board, but for the mark
 pub record SameLoad (h : Header) (v : ℕ) : Type 0 where
   pub the-verdict : (ines : Bool) (length : ℕ) (mode : Mode) (rams : Bool) → verdictOn (withByte7 h v) ines length mode rams ≡ verdictOn h ines length mode rams
   pub the-board : (mode : Mode) (length : ℕ) → startOf (cartridgeOf (withByte7 h v) mode length) ≡ marked (isNes2 (withByte7 h v)) (startOf (cartridgeOf h mode length))
