@@ -1,36 +1,43 @@
--- The NES 2.0 mark changes nothing: no definition looks at it, on any board, in either mode. Assumes nothing.
-use Prim.Native.Nat.{ℕ, _/_}
+-- The NES 2.0 mark changes nothing: no definition of a load or a call looks at it, on any board, in either mode, and none at the low nibble of byte 7.
+-- Assumes nothing.
+use Prim.Native.Nat.{ℕ, zero, suc, _+_, _/_, _<_}
 use mathlib.Core.Path.{_≡_, refl, ap, _∙_}
 use mathlib.Core.Bool.{Bool, true, false, cond, _&&_}
-use mathlib.Core.List.{List, [], _∷_}
+use mathlib.Core.List.{List, [], _∷_, map}
+use native.Mathlib.Nat.{not-suc-le-zero, le-of-suc-le-suc}
+use native.Mathlib.Omega.{arith}
 use lib.Dec.{eqb}
-use lib.ListN.{length}
+use lib.ListN.{length, set, drop, length-set}
+use lib.Seq.{getD-set-other}
 use Rattle.common.specs.declared.Mode.{Mode}
 use Rattle.common.specs.declared.Mode.the-variants.{House, Board as OnBoard}
-use Rattle.cartridge.specs.Load.{verdictOn, cartridgeOf}
-use Rattle.cartridge.specs.Header.{mirroringOf}
+use Rattle.memory.specs.Memory.{byte}
+use Rattle.cartridge.specs.Header.{isInes, headerOf, mirroringOf, isNes2}
+use Rattle.cartridge.specs.Load.{verdictOn, verdict, cartridgeOf, loadedAs, prgTotal, prgRom, chrRom}
 use Rattle.cartridge.specs.declared.Cartridge.{Cartridge}
-use Rattle.cartridge.specs.declared.Header.{Header}
 use Rattle.cartridge.specs.declared.MapperType.{MapperType}
 use Rattle.cartridge.specs.declared.MapperType.the-variants.{Nrom, Mmc1, Uxrom, Cnrom, Mmc3}
 use Rattle.cartridge.specs.declared.Refusal.the-variants.{StateOutOfRange}
+use Rattle.cartridge.specs.declared.Verdict.{Verdict}
+use Rattle.cartridge.specs.declared.Verdict.the-variants.{Take, Refuse}
 use Rattle.places.specs.Places.{byteOf}
 use Rattle.places.specs.declared.Place.{Place}
 use Rattle.places.specs.declared.Place.the-variants.{Prg, Chr, PrgRam, ChrRam, Zero, Refused}
-use Rattle.boards.specs.Start.{startOf}
+use Rattle.boards.specs.Start.{startOf, loadedBoard}
 use Rattle.boards.specs.Range.{inRange, isLoaded}
 use Rattle.boards.specs.Read.{readPlace}
+use Rattle.boards.specs.Read as reads
 use Rattle.boards.specs.Write.{writePlace, moved, writtenAs, landing}
 use Rattle.boards.specs.Clock.{ticked, unmoved}
 use Rattle.boards.specs.Clock as clocks
-use Rattle.boards.specs.Read as reads
 use Rattle.boards.specs.Runs.{Lent, Call, next, answer, prgAfter, chrAfter, after, answers}
 use Rattle.boards.specs.Runs.Call.{read, write, clock}
 use Rattle.boards.specs.declared.Board.{Board}
 use Rattle.boards.specs.declared.Clocked.{Clocked}
 use Rattle.boards.specs.declared.ClockAnswer.the-variants.{Refused as NotClocked}
+use Rattle.boards.specs.declared.LoadAnswer.the-variants.{Accepted}
 use Rattle.boards.specs.declared.Written.{Written}
-use Rattle.laws.specs.Mark.{marked, cartMarked, SameCall, SameRun, SameLoad}
+use Rattle.laws.specs.Mark.{marked, cartMarked, withByte7, callWith, SameLoad, SameCall, SameRun}
 use Rattle.laws.proofs.Opened.{opened}
 
 -- a board with this mode, mapper and mark, and all else as b has it
@@ -73,28 +80,37 @@ alike OnBoard Uxrom x y b = record { range = refl; reads = λ a. refl; writes = 
 alike OnBoard Cnrom x y b = record { range = refl; reads = λ a. refl; writes = λ a. refl; moves = λ v a. refl; ticks = refl }
 alike OnBoard Mmc3 x y b = record { range = refl; reads = λ a. refl; writes = λ a. refl; moves = λ v a. refl; ticks = refl }
 
+-- what follows a place past byte 7 does not see it
+drop-set : (k i : ℕ) (s : List ℕ) (v : ℕ) → i < k → drop k (set s i v) ≡ drop k s
+drop-set zero i s v h = absurd (not-suc-le-zero h)
+drop-set (suc k) i [] v h = refl
+drop-set (suc k) zero (x ∷ s) v h = refl
+drop-set (suc k) (suc i) (x ∷ s) v h = drop-set k i s v (le-of-suc-le-suc h)
+
 -- the byte at a place
-byte-alike : (x : Bool) (c : Cartridge) (p : Place) (image prg chr : List ℕ) → byteOf (cartMarked x c) p image prg chr ≡ byteOf c p image prg chr
-unfolding opened
-byte-alike x c (Prg i) image prg chr = refl
-byte-alike x c (Chr i) image prg chr = refl
-byte-alike x c (PrgRam i) image prg chr = refl
-byte-alike x c (ChrRam i) image prg chr = refl
-byte-alike x c Zero image prg chr = refl
-byte-alike x c (Refused why) image prg chr = refl
+byte-alike : (x : Bool) (v : ℕ) (c : Cartridge) (p : Place) (image prg chr : List ℕ) → byteOf (cartMarked x c) p (withByte7 v image) prg chr ≡ byteOf c p image prg chr
+unfolding byteOf prgRom chrRom
+byte-alike x v c (Prg i) image prg chr = ap (λ (t : List ℕ). byte t i) (drop-set 16 7 image v (omega arith))
+byte-alike x v c (Chr i) image prg chr = ap (λ (t : List ℕ). byte t i) (drop-set (16 + prgTotal c) 7 image v (omega arith))
+byte-alike x v c (PrgRam i) image prg chr = refl
+byte-alike x v c (ChrRam i) image prg chr = refl
+byte-alike x v c Zero image prg chr = refl
+byte-alike x v c (Refused why) image prg chr = refl
 
 -- one board and its likeness
-module _ (x : Bool) (b : Board) where
+module _ (x : Bool) (u : ℕ) (b : Board) where
   both : Alike (b .cart .mode) (b .cart .mapper) x (b .cart .nes2) b
   both = alike (b .cart .mode) (b .cart .mapper) x (b .cart .nes2) b
 
-  loaded : (n : ℕ) → isLoaded (marked x b) n ≡ isLoaded b n
+  loaded : (image : List ℕ) → isLoaded (marked x b) (length (withByte7 u image)) ≡ isLoaded b (length image)
   unfolding isLoaded
-  loaded n = ap (λ (t : Bool). t && eqb n (b .cart .length)) (both .range)
+  loaded image =
+      ap (λ (n : ℕ). isLoaded (marked x b) n) (length-set image 7 u)
+      ∙ ap (λ (t : Bool). t && eqb (length image) (b .cart .length)) (both .range)
 
-  lands : (l : Lent) (a : ℕ) → landing (marked x b) (l .image) (l .prg) (l .chr) a ≡ landing b (l .image) (l .prg) (l .chr) a
+  lands : (l : Lent) (a : ℕ) → landing (marked x b) (withByte7 u (l .image)) (l .prg) (l .chr) a ≡ landing b (l .image) (l .prg) (l .chr) a
   unfolding landing
-  lands l a = simp (loaded, both .writes)
+  lands l a = simp (loaded (l .image), both .writes)
 
   leaves : (p : Place) (v a : ℕ) → writtenAs (marked x b) p v a ≡ written x (writtenAs b p v a)
   unfolding writtenAs
@@ -113,13 +129,13 @@ module _ (x : Bool) (b : Board) where
       go true = both .ticks
       go false = refl
 
-  answer-alike : (c : Call) → answer (marked x b) c ≡ answer b c
+  answer-alike : (c : Call) → answer (marked x b) (callWith u c) ≡ answer b c
   unfolding answer reads.read
-  answer-alike (read l a) = simp (loaded, both .reads, byte-alike x (b .cart))
+  answer-alike (read l a) = simp (loaded (l .image), both .reads, byte-alike x u (b .cart))
   answer-alike (write l a v) = simp (lands, leaves)
   answer-alike clock = simp (ticks-alike)
 
-  next-alike : (c : Call) → next (marked x b) c ≡ marked x (next b c)
+  next-alike : (c : Call) → next (marked x b) (callWith u c) ≡ marked x (next b c)
   unfolding next
   next-alike (read l a) = refl
   next-alike (write l a v) =
@@ -127,39 +143,84 @@ module _ (x : Bool) (b : Board) where
       ∙ ap (λ (w : Written). w .board) (leaves (landing b (l .image) (l .prg) (l .chr) a) v a)
   next-alike clock = ap (λ (t : Clocked). t .board) ticks-alike
 
-  prg-alike : (c : Call) → prgAfter (marked x b) c ≡ prgAfter b c
+  prg-alike : (c : Call) → prgAfter (marked x b) (callWith u c) ≡ prgAfter b c
   unfolding prgAfter
   prg-alike (read l a) = refl
   prg-alike (write l a v) = simp (lands)
   prg-alike clock = refl
 
-  chr-alike : (c : Call) → chrAfter (marked x b) c ≡ chrAfter b c
+  chr-alike : (c : Call) → chrAfter (marked x b) (callWith u c) ≡ chrAfter b c
   unfolding chrAfter
   chr-alike (read l a) = refl
   chr-alike (write l a v) = simp (lands)
   chr-alike clock = refl
 
 -- a call
-pub mark-changes-no-call : (mark : Bool) (b : Board) (c : Call) → SameCall mark b c
-mark-changes-no-call mark b c =
-    record { the-answer = answer-alike mark b c; the-next-board = next-alike mark b c; prg-ram = prg-alike mark b c; chr-ram = chr-alike mark b c }
+pub mark-changes-no-call : (mark : Bool) (v : ℕ) (b : Board) (c : Call) → SameCall mark v b c
+mark-changes-no-call mark v b c =
+    record { the-answer = answer-alike mark v b c; the-next-board = next-alike mark v b c; prg-ram = prg-alike mark v b c; chr-ram = chr-alike mark v b c }
 
-run-alike : (x : Bool) (cs : List Call) (b : Board) → (answers (marked x b) cs ≡ answers b cs) × (after (marked x b) cs ≡ marked x (after b cs))
+run-alike : (x : Bool) (v : ℕ) (cs : List Call) (b : Board) → (answers (marked x b) (map (callWith v) cs) ≡ answers b cs) × (after (marked x b) (map (callWith v) cs) ≡ marked x (after b cs))
 unfolding answers after
-run-alike x [] b = (refl, refl)
-run-alike x (c ∷ cs) b =
-    let r = run-alike x cs (next b c) in
-    (simp (answer-alike x b, next-alike x b, r .0), simp (next-alike x b, r .1))
+run-alike x v [] b = (refl, refl)
+run-alike x v (c ∷ cs) b =
+    let r = run-alike x v cs (next b c) in
+    (simp (answer-alike x v b, next-alike x v b, r .0), ap (λ (d : Board). after d (map (callWith v) cs)) (next-alike x v b c) ∙ r .1)
 
 -- a run of calls
-pub mark-changes-no-run : (mark : Bool) (b : Board) (cs : List Call) → SameRun mark b cs
-mark-changes-no-run mark b cs = let r = run-alike mark cs b in record { the-answers = r .0; the-board = r .1 }
+pub mark-changes-no-run : (mark : Bool) (v : ℕ) (b : Board) (cs : List Call) → SameRun mark v b cs
+mark-changes-no-run mark v b cs = let r = run-alike mark v cs b in record { the-answers = r .0; the-board = r .1 }
+
+-- the high nibble of a byte that is put there, or not where there is none
+high-nibble : (i : ℕ) (s : List ℕ) (v : ℕ) → v / 16 ≡ byte s i / 16 → byte (set s i v) i / 16 ≡ byte s i / 16
+high-nibble i [] v h = refl
+high-nibble zero (x ∷ s) v h = h
+high-nibble (suc i) (x ∷ s) v h = high-nibble i s v h
+
+module _ (s : List ℕ) (v : ℕ) (h : v / 16 ≡ byte s 7 / 16) where
+  at0 : byte (set s 7 v) 0 ≡ byte s 0
+  at0 = getD-set-other s 7 0 v 0 (λ e. omega (arith, e))
+
+  at1 : byte (set s 7 v) 1 ≡ byte s 1
+  at1 = getD-set-other s 7 1 v 0 (λ e. omega (arith, e))
+
+  at2 : byte (set s 7 v) 2 ≡ byte s 2
+  at2 = getD-set-other s 7 2 v 0 (λ e. omega (arith, e))
+
+  at3 : byte (set s 7 v) 3 ≡ byte s 3
+  at3 = getD-set-other s 7 3 v 0 (λ e. omega (arith, e))
+
+  at4 : byte (set s 7 v) 4 ≡ byte s 4
+  at4 = getD-set-other s 7 4 v 0 (λ e. omega (arith, e))
+
+  at5 : byte (set s 7 v) 5 ≡ byte s 5
+  at5 = getD-set-other s 7 5 v 0 (λ e. omega (arith, e))
+
+  at6 : byte (set s 7 v) 6 ≡ byte s 6
+  at6 = getD-set-other s 7 6 v 0 (λ e. omega (arith, e))
+
+  same-verdict : (mode : Mode) (p c : ℕ) → verdict (set s 7 v) mode p c ≡ verdict s mode p c
+  unfolding verdict verdictOn isInes headerOf
+  same-verdict mode p c = simp (at0, at1, at2, at3, at4, at5, at6, high-nibble 7 s v h, length-set)
+
+  same-start : (mode : Mode) → startOf (cartridgeOf (headerOf (set s 7 v)) mode (length (set s 7 v))) ≡ marked (isNes2 (headerOf (set s 7 v))) (startOf (cartridgeOf (headerOf s) mode (length s)))
+  unfolding cartridgeOf startOf headerOf mirroringOf
+  same-start mode = simp (at4, at5, at6, high-nibble 7 s v h, length-set)
 
 -- a load
-pub mark-changes-no-load : (h : Header) (v : ℕ) → v / 16 ≡ h .flags7 / 16 → SameLoad h v
-unfolding verdictOn cartridgeOf startOf mirroringOf
-mark-changes-no-load h v e =
+pub mark-changes-no-load : (mode : Mode) (s prg chr : List ℕ) (v : ℕ) → v / 16 ≡ byte s 7 / 16 → SameLoad mode s prg chr v
+unfolding loadedBoard loadedAs
+mark-changes-no-load mode s prg chr v h =
     record {
-      the-verdict = λ ines length mode rams. simp (e);
-      the-board = λ mode length. simp (e);
+      the-answer = rw (same-verdict s v h mode (length prg) (length chr)) (answers-so (verdict s mode (length prg) (length chr)));
+      the-board = λ e. rw (same-verdict s v h mode (length prg) (length chr)) (boards-so (verdict s mode (length prg) (length chr)) e);
     }
+  where
+    answers-so : (w : Verdict) → loadedBoard (loadedAs w (cartridgeOf (headerOf (set s 7 v)) mode (length (set s 7 v)))) .answer ≡ loadedBoard (loadedAs w (cartridgeOf (headerOf s) mode (length s))) .answer
+    answers-so Take = refl
+    answers-so (Refuse why) = refl
+
+    boards-so : (w : Verdict) → loadedBoard (loadedAs w (cartridgeOf (headerOf s) mode (length s))) .answer ≡ Accepted
+        → loadedBoard (loadedAs w (cartridgeOf (headerOf (set s 7 v)) mode (length (set s 7 v)))) .board ≡ marked (isNes2 (headerOf (set s 7 v))) (loadedBoard (loadedAs w (cartridgeOf (headerOf s) mode (length s))) .board)
+    boards-so Take e = same-start s v h mode
+    boards-so (Refuse why) e = absurd (let z : _≡_ {A = ℕ} 0 1 = cc in omega arith)
