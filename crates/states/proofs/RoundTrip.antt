@@ -356,58 +356,32 @@ second-digit : (n : ℕ) → n % 0x100 ≡ 0 → n < 0x400
     → 0 + n / 0x100 % 4 * 0x100 + 0 * 0x400 + 0 * 0x8000 + 0 * 0x20000 + 0 * 0x40000 + 0 * 0x800000 + 0 * 0x10000000 ≡ n
 second-digit n e h = omega arith
 
+-- words are their five
+of-words : {w d : Words} → d .cart ≡ w .cart → d .length ≡ w .length → d .banks ≡ w .banks → d .regs ≡ w .regs → d .irq ≡ w .irq → d ≡ w
+of-words c n b r q = λ i. record { cart = c i; length = n i; banks = b i; regs = r i; irq = q i }
+
 words-as : (k : MapperType) (w : Words) → isKept k w ≡ true → wordsOf (boardAs k w) ≡ w
 unfolding isKept restIsWhole wordsOf boardAs cartAs banksWord serialDigit regsWord rowOf irqWord register bit mmc3.start
 words-as Nrom w h =
     let p = split-3 (cartIsWhole Nrom w) (restIsWhole Nrom w) (inRange (boardAs Nrom w)) h in
     let q = split-3 (eqb (w .banks) 0) (eqb (w .regs) 0) (eqb (w .irq) 0) (p .1) in
-    λ i. record {
-      cart = cart-kept Nrom w (p .0) i;
-      length = w .length;
-      banks = sym (eqb-true (w .banks) 0 (q .0)) i;
-      regs = sym (eqb-true (w .regs) 0 (q .1)) i;
-      irq = sym (eqb-true (w .irq) 0 (q .2)) i;
-    }
+    of-words (cart-kept Nrom w (p .0)) refl (sym (eqb-true (w .banks) 0 (q .0))) (sym (eqb-true (w .regs) 0 (q .1))) (sym (eqb-true (w .irq) 0 (q .2)))
 words-as Mmc1 w h =
     let p = split-3 (cartIsWhole Mmc1 w) (restIsWhole Mmc1 w) (inRange (boardAs Mmc1 w)) h in
     let q = split-4 (eqb (w .banks % 0x400) 0) (ltb (w .banks) 0x100000000) (eqb (w .regs) 0) (eqb (w .irq) 0) (p .1) in
-    λ i. record {
-      cart = cart-kept Mmc1 w (p .0) i;
-      length = w .length;
-      banks = banks-kept w (serial-in w (p .2)) (eqb-true (w .banks % 0x400) 0 (q .0)) (ltb-true (w .banks) 0x100000000 (q .1)) i;
-      regs = sym (eqb-true (w .regs) 0 (q .2)) i;
-      irq = sym (eqb-true (w .irq) 0 (q .3)) i;
-    }
+    of-words (cart-kept Mmc1 w (p .0)) refl (banks-kept w (serial-in w (p .2)) (eqb-true (w .banks % 0x400) 0 (q .0)) (ltb-true (w .banks) 0x100000000 (q .1))) (sym (eqb-true (w .regs) 0 (q .2))) (sym (eqb-true (w .irq) 0 (q .3)))
 words-as Uxrom w h =
     let p = split-3 (cartIsWhole Uxrom w) (restIsWhole Uxrom w) (inRange (boardAs Uxrom w)) h in
     let q = split-3 (ltb (w .banks) 0x100) (eqb (w .regs) 0) (eqb (w .irq) 0) (p .1) in
-    λ i. record {
-      cart = cart-kept Uxrom w (p .0) i;
-      length = w .length;
-      banks = first-digit (w .banks) (ltb-true (w .banks) 0x100 (q .0)) i;
-      regs = sym (eqb-true (w .regs) 0 (q .1)) i;
-      irq = sym (eqb-true (w .irq) 0 (q .2)) i;
-    }
+    of-words (cart-kept Uxrom w (p .0)) refl (first-digit (w .banks) (ltb-true (w .banks) 0x100 (q .0))) (sym (eqb-true (w .regs) 0 (q .1))) (sym (eqb-true (w .irq) 0 (q .2)))
 words-as Cnrom w h =
     let p = split-3 (cartIsWhole Cnrom w) (restIsWhole Cnrom w) (inRange (boardAs Cnrom w)) h in
     let q = split-4 (eqb (w .banks % 0x100) 0) (ltb (w .banks) 0x400) (eqb (w .regs) 0) (eqb (w .irq) 0) (p .1) in
-    λ i. record {
-      cart = cart-kept Cnrom w (p .0) i;
-      length = w .length;
-      banks = second-digit (w .banks) (eqb-true (w .banks % 0x100) 0 (q .0)) (ltb-true (w .banks) 0x400 (q .1)) i;
-      regs = sym (eqb-true (w .regs) 0 (q .2)) i;
-      irq = sym (eqb-true (w .irq) 0 (q .3)) i;
-    }
+    of-words (cart-kept Cnrom w (p .0)) refl (second-digit (w .banks) (eqb-true (w .banks % 0x100) 0 (q .0)) (ltb-true (w .banks) 0x400 (q .1))) (sym (eqb-true (w .regs) 0 (q .2))) (sym (eqb-true (w .irq) 0 (q .3)))
 words-as Mmc3 w h =
     let p = split-3 (cartIsWhole Mmc3 w) (restIsWhole Mmc3 w) (inRange (boardAs Mmc3 w)) h in
     let q = split-3 (eqb (w .banks) 0) (ltb (w .regs) 0x400000000000000) (ltb (w .irq) 0x800000) (p .1) in
-    λ i. record {
-      cart = cart-kept Mmc3 w (p .0) i;
-      length = w .length;
-      banks = sym (eqb-true (w .banks) 0 (q .0)) i;
-      regs = regs-kept w (ltb-true (w .regs) 0x400000000000000 (q .1)) i;
-      irq = irq-kept w (ltb-true (w .irq) 0x800000 (q .2)) i;
-    }
+    of-words (cart-kept Mmc3 w (p .0)) refl (sym (eqb-true (w .banks) 0 (q .0))) (regs-kept w (ltb-true (w .regs) 0x400000000000000 (q .1))) (irq-kept w (ltb-true (w .irq) 0x800000 (q .2)))
 
 -- kept words are the words of the board that they hold
 pub back-and-there : (w : Words) → isKept (mapperIn w) w ≡ true → wordsOf (boardIn w) ≡ w
