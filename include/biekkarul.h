@@ -3,7 +3,8 @@
  * docs/ABI.md has the layout of the state and the rules in full.
  *
  * Every lent buffer is a pointer and a length. A pointer is not null, also where the length is 0, and is
- * good for that many bytes; a buffer that is not const must overlap with no other buffer of the call.
+ * good for that many bytes (of digits: for that many numbers, where a uint64_t may stand); a buffer that is
+ * not const must overlap with no other buffer of the call; the image of a read or write is the one loaded.
  * That is all that a caller owes: every length, every byte, every mode and every address is taken.
  *
  * Every answer is a number below 256, or 256 + N for refusal N. After a refusal every lent buffer holds
@@ -24,6 +25,11 @@ extern "C" {
 #define BIEKKARUL_STATE_LENGTH 40  /* a board */
 #define BIEKKARUL_RAM_LENGTH 8192  /* PRG RAM, and CHR RAM, whether the board uses them or not */
 #define BIEKKARUL_FIELDS_LENGTH 12 /* what the header reader writes */
+
+/* The count of numbers, 64 bits each, that a state is read into. */
+#define BIEKKARUL_DIGITS 40
+/* The version of the state's layout, its first digit; a state of another version is refused with 10. */
+#define BIEKKARUL_STATE_VERSION 1
 
 /* Modes. */
 #define BIEKKARUL_HOUSE 0 /* as the emulator potatis answers, with a refusal where it panics */
@@ -54,6 +60,50 @@ extern "C" {
 #define BIEKKARUL_NO_CHR_RAM 12             /* house write: NROM, MMC1, UxROM, 0000-1FFF, CHR ROM */
 #define BIEKKARUL_NO_SUCH_PLACE 13          /* house CNROM: 2000-7FFF; or a read of 8000-BFFF with PRG 1 */
 #define BIEKKARUL_IRQ_PENDING 14            /* house MMC3: even write, E000-FFFF, IRQ enabled, counter 0 or 1 */
+
+/* The places of a state's digits; docs/ABI.md has what each says and its range. */
+enum biekkarul_digit {
+    BIEKKARUL_DIGIT_VERSION,
+    BIEKKARUL_DIGIT_MAPPER, /* 0 NROM, 1 MMC1, 2 UxROM, 3 CNROM, 4 MMC3 */
+    BIEKKARUL_DIGIT_MODE,
+    BIEKKARUL_DIGIT_NES2,
+    BIEKKARUL_DIGIT_HEADER_MIRRORING, /* 0 horizontal, 1 vertical */
+    BIEKKARUL_DIGIT_MIRRORING,        /* 0 horizontal, 1 vertical, 2 upper screen, 3 lower screen */
+    BIEKKARUL_DIGIT_PRG_RAM,
+    BIEKKARUL_DIGIT_PRG_COUNT,
+    BIEKKARUL_DIGIT_CHR_COUNT,
+    BIEKKARUL_DIGIT_IMAGE_LENGTH,
+    BIEKKARUL_DIGIT_UXROM_BANK,
+    BIEKKARUL_DIGIT_CNROM_BANK,
+    BIEKKARUL_DIGIT_AXROM_BANK,
+    BIEKKARUL_DIGIT_GXROM_PRG_BANK,
+    BIEKKARUL_DIGIT_GXROM_CHR_BANK,
+    BIEKKARUL_DIGIT_MMC1_SERIAL_COUNT,
+    BIEKKARUL_DIGIT_MMC1_SERIAL_VALUE,
+    BIEKKARUL_DIGIT_MMC1_PRG_MODE,
+    BIEKKARUL_DIGIT_MMC1_CHR_MODE,
+    BIEKKARUL_DIGIT_MMC1_CHR_0,
+    BIEKKARUL_DIGIT_MMC1_CHR_1,
+    BIEKKARUL_DIGIT_MMC1_PRG,
+    BIEKKARUL_DIGIT_MMC3_R0,
+    BIEKKARUL_DIGIT_MMC3_R1,
+    BIEKKARUL_DIGIT_MMC3_R2,
+    BIEKKARUL_DIGIT_MMC3_R3,
+    BIEKKARUL_DIGIT_MMC3_R4,
+    BIEKKARUL_DIGIT_MMC3_R5,
+    BIEKKARUL_DIGIT_MMC3_R6,
+    BIEKKARUL_DIGIT_MMC3_R7,
+    BIEKKARUL_DIGIT_MMC3_LATCH,
+    BIEKKARUL_DIGIT_MMC3_COUNTER,
+    BIEKKARUL_DIGIT_MMC3_SELECT,
+    BIEKKARUL_DIGIT_MMC3_PRG_MODE,
+    BIEKKARUL_DIGIT_MMC3_CHR_MODE,
+    BIEKKARUL_DIGIT_MMC3_IRQ_ENABLED,
+    BIEKKARUL_DIGIT_MMC3_RELOAD,
+    BIEKKARUL_DIGIT_MMC3_IRQ_LINE,
+    BIEKKARUL_DIGIT_RAM_ENABLED,
+    BIEKKARUL_DIGIT_RAM_WRITES_DENIED
+};
 
 /*
  * Reads the header: bytes 4 to 15 of the image go to fields as they stand.
@@ -99,6 +149,13 @@ uint16_t biekkarul_write(uint8_t *state, size_t state_length,
  * Answers 1 when an IRQ comes, else 0. Refused with 10 when the state is out of range.
  */
 uint16_t biekkarul_clock(uint8_t *state, size_t state_length);
+
+/*
+ * Reads a state into its digits, each at its place of enum biekkarul_digit. digits_length counts numbers.
+ * Answers 0. Refused with 10 when the state is out of range or digits_length is not 40.
+ */
+uint16_t biekkarul_digits(const uint8_t *state, size_t state_length,
+                          uint64_t *digits, size_t digits_length);
 
 #ifdef __cplusplus
 }

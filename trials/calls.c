@@ -3,9 +3,11 @@
  * calls on one board; it may also put any bytes into the state. Each call is made twice, on buffers of its own:
  * of the library that the sanitizer watches, and of the library as it is shipped, whose functions are here as
  * shipped_load and so on (in the gate, without the sanitizer, both are the shipped one). They are held to what
- * biekkarul.h promises and, from an accepted load on until the input spoils the state, to the model.
+ * biekkarul.h promises and, from an accepted load on, to the model: answers, RAMs and, after each call, every digit of
+ * the state. Where the input has put other bytes into the state and they are still a board's, the model goes on from the
+ * digits that they are read into.
  */
-#include "model.h"
+#include "lent.h"
 
 /* The library as it is shipped: fuzz.sh gives its functions these names. */
 uint16_t shipped_header(const uint8_t *, size_t, uint8_t *, size_t);
@@ -14,6 +16,7 @@ uint16_t shipped_read(const uint8_t *, size_t, const uint8_t *, size_t, const ui
                       uint16_t);
 uint16_t shipped_write(uint8_t *, size_t, const uint8_t *, size_t, uint8_t *, size_t, uint8_t *, size_t, uint16_t, uint8_t);
 uint16_t shipped_clock(uint8_t *, size_t);
+uint16_t shipped_digits(const uint8_t *, size_t, uint64_t *, size_t);
 
 /* One set of lent buffers. */
 struct board {
@@ -95,7 +98,7 @@ static int refused(unsigned answer, unsigned long numbers) {
     return 1;
 }
 
-/* Whether the state is one that calls have made from an accepted load of this image; then the model has it too. */
+/* Whether the model has this state: since an accepted load, or since it took up what an input put there. */
 static int reached;
 static struct model model;
 
@@ -107,6 +110,44 @@ static int lengths_right(void) {
 static void rams_as_the_model_has(void) {
     MUST(!memcmp(first.prg_ram, model.prg_ram, sizeof model.prg_ram));
     MUST(!memcmp(first.chr_ram, model.chr_ram, sizeof model.chr_ram));
+}
+
+#define DIGITS_ROOM (BIEKKARUL_DIGITS + GUARD)
+
+/* Reads the state into so many digits: 40 are written, or none where it is refused, and the room around stays. */
+static unsigned read_digits(uint64_t *digits, size_t length) {
+    uint64_t shipped[DIGITS_ROOM], held[DIGITS_ROOM];
+    size_t written;
+    unsigned answer;
+    memset(held, 0x5A, sizeof held);
+    memcpy(digits, held, sizeof held);
+    memcpy(shipped, held, sizeof held);
+    lend((uint8_t *)digits, sizeof held, length * sizeof *digits);
+    answer = biekkarul_digits(first.state, state_length, digits, length);
+    ASAN_UNPOISON_MEMORY_REGION(digits, sizeof held);
+    MUST(answer == shipped_digits(second.state, state_length, shipped, length));
+    MUST(!memcmp(digits, shipped, sizeof shipped));
+    if (refused(answer, BIT(10))) {
+        written = 0;
+    } else {
+        MUST(answer == 0 && state_length == BIEKKARUL_STATE_LENGTH && length == BIEKKARUL_DIGITS);
+        written = BIEKKARUL_DIGITS;
+    }
+    MUST(!memcmp(digits + written, held + written, (DIGITS_ROOM - written) * sizeof *held));
+    return answer;
+}
+
+/* Whether the state is a board's. */
+static int is_state(void) {
+    uint64_t digits[DIGITS_ROOM];
+    return read_digits(digits, BIEKKARUL_DIGITS) == 0;
+}
+
+static void digits_as_the_model_has(void) {
+    uint64_t digits[DIGITS_ROOM], wanted[BIEKKARUL_DIGITS];
+    MUST(read_digits(digits, BIEKKARUL_DIGITS) == 0);
+    model_digits(&model, wanted);
+    MUST(!memcmp(digits, wanted, sizeof wanted));
 }
 
 /* "Order in load: 9, 10" and then as the model says. */
@@ -127,7 +168,7 @@ static void do_load(unsigned mode) {
         MUST(same(&first, &before));
     } else {
         MUST(answer == 0 && lengths_right());
-        model_load(&model, image, mode);
+        model_load(&model, image, image_length, mode);
         reached = 1;
         rams_as_the_model_has();
     }
@@ -136,7 +177,9 @@ static void do_load(unsigned mode) {
 /* What a read or a write with an image of this length is refused with before its board is asked, 0 for nothing. */
 static unsigned wanted_first(size_t lent_length) {
     int rams_right = prg_length == BIEKKARUL_RAM_LENGTH && chr_length == BIEKKARUL_RAM_LENGTH;
-    return refused_first(rams_right, state_length == BIEKKARUL_STATE_LENGTH, reached && lent_length != image_length);
+    unsigned wanted = refused_first(rams_right, is_state(), lent_length != model.image_length);
+    MUST(wanted != 0 || reached);
+    return wanted;
 }
 
 static void do_read(unsigned address, size_t lent_length) {
@@ -147,9 +190,7 @@ static void do_read(unsigned address, size_t lent_length) {
     MUST(answer == shipped_read(b->state, state_length, image, lent_length, b->prg_ram, prg_length, b->chr_ram,
                                 chr_length, (uint16_t)address));
     MUST(refused(answer, READ_REFUSALS) || (lengths_right() && answer < 256));
-    if (reached && wanted == 0) wanted = model_read(&model, image, address);
-    MUST(wanted == 0 || answer == wanted);
-    MUST(!reached || answer == wanted);
+    MUST(answer == (wanted == 0 ? model_read(&model, image, address) : wanted));
     MUST(same(&first, &before));
 }
 
@@ -174,19 +215,23 @@ static void do_write(unsigned address, unsigned value, size_t lent_length) {
              1);
         MUST(address < 0x8000 || changed(before.prg_ram, first.prg_ram, prg_length) == 0);
     }
-    MUST(wanted == 0 || answer == wanted);
-    if (reached) {
-        MUST(wanted != 0 || answer == model_write(&model, address, value));
-        rams_as_the_model_has();
-    }
+    MUST(answer == (wanted == 0 ? model_write(&model, address, value) : wanted));
+    if (reached) rams_as_the_model_has();
 }
 
 static void do_clock(void) {
     unsigned answer = biekkarul_clock(first.state, state_length);
     MUST(answer == shipped_clock(second.state, state_length));
     MUST(refused(answer, BIT(10)) ? same(&first, &before) : answer <= 1);
-    MUST(state_length == BIEKKARUL_STATE_LENGTH || answer == REFUSED(10));
+    MUST(is_state() == !BIEKKARUL_IS_REFUSED(answer));
     MUST(!reached || answer == model_clock(&model));
+}
+
+/* Room for 40 digits, or for another count. */
+static void do_digits(unsigned choice) {
+    uint64_t digits[DIGITS_ROOM];
+    read_digits(digits, near_length(choice, BIEKKARUL_DIGITS));
+    MUST(same(&first, &before));
 }
 
 /* Refusals in the order of biekkarul.h: 10, 1, 2. */
@@ -211,11 +256,16 @@ static void do_header(unsigned choice) {
     for (i = 0; i < length; i++) MUST(fields[i] == (answer == 0 ? image[4 + i] : 0x5A));
 }
 
-/* Any byte of the state, as an owner could spoil it. */
+/* Any byte of the state, as an owner could spoil it. What is a board's still, the model takes up. */
 static void spoil(unsigned place, unsigned value) {
+    uint64_t digits[DIGITS_ROOM];
     if (state_length == 0) return;
     first.state[place % state_length] = second.state[place % state_length] = (uint8_t)value;
-    reached = 0;
+    reached = read_digits(digits, BIEKKARUL_DIGITS) == 0 && lengths_right();
+    if (!reached) return;
+    model_take_up(&model, digits);
+    memcpy(model.prg_ram, first.prg_ram, sizeof model.prg_ram);
+    memcpy(model.chr_ram, first.chr_ram, sizeof model.chr_ram);
 }
 
 /* Bit 6 of a call's byte: the image is lent a byte shorter than it was loaded. */
@@ -237,6 +287,10 @@ static void one_call(struct input *in) {
         value = take(in);
         do_write(address, value, lent_length);
         break;
+    case 5:
+        if (kind & RARER) do_digits(take(in));
+        else do_clock();
+        break;
     case 6:
         address = take(in);
         if (kind & RARER) {
@@ -246,15 +300,12 @@ static void one_call(struct input *in) {
             do_header(address);
         }
         break;
-    case 7:
-        if (kind & RARER) {
-            do_load(take(in));
-            break;
-        }
-        /* fall through */
-    default: do_clock();
+    default:
+        if (kind & RARER) do_load(take(in));
+        else do_clock();
     }
     MUST(same(&first, &second));
+    if (reached) digits_as_the_model_has();
 }
 
 /* The choice of a length that stands for a wrong magic instead, with the right length. */
@@ -289,6 +340,7 @@ int LLVMFuzzerTestOneInput(const uint8_t *bytes, size_t length) {
     start(&before);
     reached = 0;
     do_load(mode < 250 ? mode & 1 : mode);
+    if (reached) digits_as_the_model_has();
     while (in.left > 0) one_call(&in);
     return 0;
 }

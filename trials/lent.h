@@ -5,16 +5,12 @@
 #ifndef TRIALS_LENT_H
 #define TRIALS_LENT_H
 
-#include "biekkarul.h"
+#include "model.h"
 
 #include <sanitizer/asan_interface.h>
 #include <stdio.h>
 #include <stdlib.h>
-#include <string.h>
 
-#define HEADER_LENGTH 16u
-#define PRG_BLOCK 16384u
-#define CHR_BLOCK 8192u
 #define MOST_IMAGE (HEADER_LENGTH + 255u * PRG_BLOCK + 255u * CHR_BLOCK + 64u)
 #define GUARD 64u
 

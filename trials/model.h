@@ -1,11 +1,18 @@
 /*
  * The boards once more: document 01 read a second time and written plainly in C, with no eye to speed and none to the
- * library's code. The trials hold the library's answers and both RAMs to it. Answers are numbers as in biekkarul.h.
+ * library's code. The trials hold the library's answers, its states' digits and both RAMs to it, and so do the tests of the
+ * wrapper for Rust (through play.c). Answers and digits are numbers as in biekkarul.h.
  */
 #ifndef TRIALS_MODEL_H
 #define TRIALS_MODEL_H
 
-#include "lent.h"
+#include "biekkarul.h"
+
+#include <string.h>
+
+#define HEADER_LENGTH 16u
+#define PRG_BLOCK 16384u
+#define CHR_BLOCK 8192u
 
 enum mapper { NROM, MMC1, UXROM, CNROM, MMC3 };
 
@@ -13,8 +20,9 @@ enum mapper { NROM, MMC1, UXROM, CNROM, MMC3 };
 #define LAST_OF(blocks) ((blocks) - 1)
 
 struct model {
-    unsigned board_mode, mapper, prg, chr; /* counts of 16 KB and 8 KB */
-    unsigned header_mirroring, mirroring;
+    unsigned board_mode, mapper, nes2, prg, chr; /* counts of 16 KB and 8 KB */
+    uint64_t image_length;
+    unsigned header_mirroring, mirroring; /* letters */
     unsigned uxrom_bank, cnrom_bank;
     unsigned serial_count, serial_bits, mmc1_prg_mode, mmc1_chr_mode, chr_0, chr_1, mmc1_prg;
     unsigned selected, r[8], mmc3_prg_mode, mmc3_chr_mode;
@@ -50,14 +58,16 @@ static inline unsigned refused_first(int rams_right, int state_right, int other_
     return 0;
 }
 
-static void model_load(struct model *m, const uint8_t *image, unsigned board_mode) {
+static void model_load(struct model *m, const uint8_t *image, size_t length, unsigned board_mode) {
     memset(m, 0, sizeof *m);
     m->board_mode = board_mode;
     m->mapper = mapper_of(image);
+    m->nes2 = (image[7] & 0x0C) == 0x08;
     m->prg = image[4];
     m->chr = image[5];
+    m->image_length = length;
     m->header_mirroring = m->mirroring = image[6] & 1 ? BIEKKARUL_VERTICAL : BIEKKARUL_HORIZONTAL;
-    m->mmc1_prg_mode = 3;
+    if (m->mapper == MMC1) m->mmc1_prg_mode = 3;
 }
 
 /* Where the bank of a number starts in data of a length: house refuses a bank past the data, the board takes it modulo. */
@@ -241,6 +251,68 @@ static unsigned model_clock(struct model *m) {
     m->reload = 0;
     if (m->board_mode) return m->counter == 0 && m->enabled;
     return !marked && at_zero && m->enabled;
+}
+
+/* A mirroring's digit is the place of its letter. */
+#define MIRRORINGS "HVUL"
+
+static inline unsigned mirroring_digit(unsigned letter) {
+    const char *letters = MIRRORINGS;
+    return (unsigned)(strchr(letters, (int)letter) - letters);
+}
+
+/* The field that is a digit as it stands; no field for a digit that is fixed, or that has another form here. */
+static inline unsigned *field_of(struct model *m, unsigned digit) {
+    if (digit >= BIEKKARUL_DIGIT_MMC3_R0 && digit <= BIEKKARUL_DIGIT_MMC3_R7)
+        return &m->r[digit - BIEKKARUL_DIGIT_MMC3_R0];
+    switch (digit) {
+    case BIEKKARUL_DIGIT_MAPPER: return &m->mapper;
+    case BIEKKARUL_DIGIT_MODE: return &m->board_mode;
+    case BIEKKARUL_DIGIT_NES2: return &m->nes2;
+    case BIEKKARUL_DIGIT_PRG_COUNT: return &m->prg;
+    case BIEKKARUL_DIGIT_CHR_COUNT: return &m->chr;
+    case BIEKKARUL_DIGIT_UXROM_BANK: return &m->uxrom_bank;
+    case BIEKKARUL_DIGIT_CNROM_BANK: return &m->cnrom_bank;
+    case BIEKKARUL_DIGIT_MMC1_SERIAL_COUNT: return &m->serial_count;
+    case BIEKKARUL_DIGIT_MMC1_PRG_MODE: return &m->mmc1_prg_mode;
+    case BIEKKARUL_DIGIT_MMC1_CHR_MODE: return &m->mmc1_chr_mode;
+    case BIEKKARUL_DIGIT_MMC1_CHR_0: return &m->chr_0;
+    case BIEKKARUL_DIGIT_MMC1_CHR_1: return &m->chr_1;
+    case BIEKKARUL_DIGIT_MMC1_PRG: return &m->mmc1_prg;
+    case BIEKKARUL_DIGIT_MMC3_LATCH: return &m->latch;
+    case BIEKKARUL_DIGIT_MMC3_COUNTER: return &m->counter;
+    case BIEKKARUL_DIGIT_MMC3_SELECT: return &m->selected;
+    case BIEKKARUL_DIGIT_MMC3_PRG_MODE: return &m->mmc3_prg_mode;
+    case BIEKKARUL_DIGIT_MMC3_CHR_MODE: return &m->mmc3_chr_mode;
+    case BIEKKARUL_DIGIT_MMC3_IRQ_ENABLED: return &m->enabled;
+    case BIEKKARUL_DIGIT_MMC3_RELOAD: return &m->reload;
+    default: return NULL;
+    }
+}
+
+/* The state as digits. "A field that the board doesn't use holds its start value". */
+static inline void model_digits(struct model *m, uint64_t *digits) {
+    unsigned k;
+    for (k = 0; k < BIEKKARUL_DIGITS; k++) digits[k] = field_of(m, k) ? *field_of(m, k) : 0;
+    digits[BIEKKARUL_DIGIT_VERSION] = BIEKKARUL_STATE_VERSION;
+    digits[BIEKKARUL_DIGIT_HEADER_MIRRORING] = mirroring_digit(m->header_mirroring);
+    digits[BIEKKARUL_DIGIT_MIRRORING] = mirroring_digit(m->mirroring);
+    digits[BIEKKARUL_DIGIT_PRG_RAM] = 1;
+    digits[BIEKKARUL_DIGIT_IMAGE_LENGTH] = m->image_length;
+    /* the bits that have entered, from bit 4 down */
+    digits[BIEKKARUL_DIGIT_MMC1_SERIAL_VALUE] = m->serial_bits << (5 - m->serial_count);
+    digits[BIEKKARUL_DIGIT_RAM_ENABLED] = 1;
+}
+
+/* The other way: the board of a state that has these digits. RAMs stay as they are. */
+static inline void model_take_up(struct model *m, const uint64_t *digits) {
+    unsigned k;
+    for (k = 0; k < BIEKKARUL_DIGITS; k++)
+        if (field_of(m, k)) *field_of(m, k) = (unsigned)digits[k];
+    m->header_mirroring = (unsigned)MIRRORINGS[digits[BIEKKARUL_DIGIT_HEADER_MIRRORING]];
+    m->mirroring = (unsigned)MIRRORINGS[digits[BIEKKARUL_DIGIT_MIRRORING]];
+    m->image_length = digits[BIEKKARUL_DIGIT_IMAGE_LENGTH];
+    m->serial_bits = (unsigned)digits[BIEKKARUL_DIGIT_MMC1_SERIAL_VALUE] >> (5 - m->serial_count);
 }
 
 #endif

@@ -36,6 +36,17 @@ history() {
   done
 }
 
+# spoils MAPPER: bytes put into the state that leave it a state of this board (of NROM: that leave it none), as hex.
+spoils() {
+  case $1 in
+  0) echo 861001 ;;       # UxROM's bank
+  1) echo 8613AE861501 ;; # PRG mode 3, 4 KB CHR mode, CHR 0, PRG
+  2) echo 861003 ;;
+  3) echo 861102 ;;
+  4) echo 861A07861E05862103862227 ;; # R2, R6, the counter, select 7 and enabled
+  esac
+}
+
 # seeds CALLS TRACES: fills the two folders.
 seeds() {
   local mapper mode counts choice byte6 zeros=00000000000000000000
@@ -46,6 +57,7 @@ seeds() {
         # mode, choice of the image's length, header, choices of three lengths
         bytes "$mode" 00 "$counts$byte6${zeros:0:18}" 000000 "$(history "$mapper" 00 02 05)" >"$1/seed-$mapper-$mode-$counts"
       done
+      bytes "$mode" 00 "0202$byte6${zeros:0:18}" 000000 "$(spoils "$mapper")" 85008500 "$(history "$mapper" 00 02 05)" >"$1/seed-spoilt-$mapper-$mode"
       for counts in 0100 0101 0103 0200 0201; do # 40,976 bytes at most
         # form, choice of what is spoilt, mode, header
         bytes 00 00 "$mode" "$counts$byte6${zeros:0:18}" "$(history "$mapper" 00 01 02)" >"$2/seed-$mapper-$mode-$counts"
@@ -59,6 +71,9 @@ seeds() {
   bytes 00 00 010000"${zeros:0:18}" F30000 008000 01800000 05 >"$1/seed-state-length"
   bytes 00 00 010000"${zeros:0:18}" 00F300 008000 01800000 05 >"$1/seed-prg-length"
   bytes 00 00 010000"${zeros:0:18}" 0000F3 008000 01800000 05 >"$1/seed-chr-length"
+  for choice in 04 08 0C; do # headers that mark NES 2.0 and that do not, and room for other counts of digits
+    bytes 00 00 010000"$choice${zeros:0:16}" 000000 8500 85F3 85F5 85F8 85FF >"$1/seed-digits-$choice"
+  done
   # an image lent a byte shorter than it was loaded, and a read of the image's last byte
   bytes 00 00 010100"${zeros:0:18}" 000000 408000 428000FF >"$1/seed-other-length"
   bytes 00 00 010100"${zeros:0:18}" 000000 001FFF >"$1/seed-last-byte"
@@ -67,7 +82,7 @@ seeds() {
 # shipped_beside LIBRARY TO: the shipped library with the names that calls.c has for it.
 shipped_beside() {
   local name renamed=()
-  for name in header load read write clock; do renamed+=(--redefine-sym "biekkarul_$name=shipped_$name"); done
+  for name in header load read write clock digits; do renamed+=(--redefine-sym "biekkarul_$name=shipped_$name"); done
   objcopy "${renamed[@]}" "$1" "$2"
 }
 

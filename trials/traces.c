@@ -3,7 +3,7 @@
  * and writes its text into a buffer of ours. The text is held to what a player of the same trace says, written here after
  * document 01 over the model of the boards.
  */
-#include "model.h"
+#include "lent.h"
 
 #include <stdarg.h>
 #include <sys/types.h>
@@ -107,7 +107,7 @@ static void play(void) {
         say("refused %u\n", BIEKKARUL_REFUSAL(answer));
         return;
     }
-    model_load(&model, image, trace[5]);
+    model_load(&model, image, image_length, trace[5]);
     say("load %u %c %u %u\n", model.mapper, (char)model.header_mirroring, model.prg, model.chr);
     for (i = 0; i < count; i++) play_event(image, (unsigned)i, trace + 8 + image_length + 4 * i);
 }

@@ -2,8 +2,9 @@
 
 use crate::events::{describe, Answer, Event, Kind, PANICKED, REFUSED};
 use crate::images::Image;
+use crate::library::{RAM, STATE};
 use crate::original::Original;
-use crate::ours::{Ours, RAM, STATE};
+use crate::ours::Ours;
 use crate::sabotage::Sabotage;
 use crate::tally::{Board, Tally};
 

@@ -3,21 +3,23 @@
 
 use std::ops::Range;
 
+use biekkarul::Digits;
+
 use crate::events::{clock, read, write, Event, Kind, REFUSED};
 use crate::histories;
 use crate::images::{header, random_valid, Fill, Image};
-use crate::ours::{Ours, STATE};
+use crate::ours::Ours;
 use crate::random::Random;
 use crate::restore::{self, Irq};
-use crate::run::{Outcome, Worker};
 use crate::sabotage::Sabotage;
+use crate::worker::{Outcome, Worker};
 
 /// A state to start from: an image and events that lead there, none of them refused.
 #[derive(Clone)]
 pub struct Base {
     image: Image,
     prelude: Vec<Event>,
-    state: [u8; STATE],
+    digits: Digits,
 }
 
 impl Base {
@@ -27,7 +29,7 @@ impl Base {
         let can_change = |kind| kind == Kind::Write || kind == Kind::Clock && image.mapper() == 4;
         let served = |event: &&Event| can_change(event.kind) && ours.call(event) < REFUSED;
         let prelude = events.iter().filter(served).copied().collect();
-        Base { image, prelude, state: ours.state }
+        Base { image, prelude, digits: ours.digits() }
     }
 
     /// Any state that a random history reaches, on an image of any shape.
@@ -127,7 +129,7 @@ fn lay_out(worker: &mut Worker, base: &Base, address: u16, values: Range<usize>)
     for value in values {
         events.push(write(address, value as u8));
         probe(base, address, value, events);
-        restore::after_write(&base.state, address, events);
+        restore::after_write(&base.digits, address, events);
     }
     (events.len() - base.prelude.len()) / count
 }
@@ -272,13 +274,13 @@ mod tests {
         let mut ours = Ours::new(Sabotage::None);
         ours.load(&base.image.bytes);
         base.prelude.iter().for_each(|event| assert!(ours.call(event) < REFUSED));
-        assert_eq!(ours.state, base.state);
+        assert_eq!(ours.digits(), base.digits);
         if ours.write(address, value) >= REFUSED {
             return;
         }
         let mut back = Vec::new();
-        restore::after_write(&base.state, address, &mut back);
+        restore::after_write(&base.digits, address, &mut back);
         back.iter().for_each(|event| assert!(ours.call(event) < REFUSED, "{event}"));
-        assert_eq!(ours.state, base.state, "mapper {} {address:04x} {value:02x}", base.mapper());
+        assert_eq!(ours.digits(), base.digits, "mapper {} {address:04x} {value:02x}", base.mapper());
     }
 }

@@ -19,3 +19,4 @@ pub mod sabotage;
 pub mod shrink;
 pub mod tally;
 pub mod trace;
+pub mod worker;

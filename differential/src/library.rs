@@ -7,7 +7,7 @@
 //! return, and have no state of their own, so any thread may call them.
 
 // The wrapper for Rust links the library; two crates that did so would be one too many.
-use biekkarul as _;
+pub use biekkarul::{RAM_LENGTH as RAM, STATE_LENGTH as STATE};
 
 use crate::events::Answer;
 

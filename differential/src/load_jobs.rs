@@ -2,9 +2,7 @@
 
 use crate::images::{header, needed, Bytes, Fill, Image, GREATEST, HEADER, MAPPERS, PRG_BLOCK};
 use crate::random::Random;
-use crate::run::{Outcome, Worker};
-
-type Job = Box<dyn Fn(&mut Worker) -> Outcome + Send + Sync>;
+use crate::worker::{Job, Outcome, Worker};
 
 const LEAST: usize = HEADER + PRG_BLOCK;
 

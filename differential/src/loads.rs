@@ -1,10 +1,12 @@
 //! Loads and headers of every kind of image, most of them refused.
 
+use biekkarul::{Digit, Digits, DIGITS};
+
 use crate::compare::{Fault, Mismatch};
 use crate::events::{Answer, REFUSED};
 use crate::images::{self, Bytes, Image, HEADER, MAGIC, PRG_BLOCK};
 use crate::original::{self, Facts, NoBoard, Original};
-use crate::ours::{self, Ours, STATE};
+use crate::ours::{self, Ours, HOUSE};
 use crate::sabotage::Sabotage;
 use crate::tally::Tally;
 
@@ -32,22 +34,25 @@ pub fn by_the_paper(image: &[u8]) -> Answer {
     }
 }
 
-/// The state that an accepted house load leaves, as the layout's page has it.
-fn start_state(header: &[u8; HEADER], length: usize) -> [u8; STATE] {
+/// What the state holds after an accepted house load.
+fn start_digits(header: &[u8; HEADER], length: usize) -> [u64; DIGITS] {
     let mapper = images::mapper(header);
-    let mirroring = header[6] & 1;
-    let nes2 = u8::from(header[7] & 0x0c == 0x08);
-    let mut state = [0; STATE];
-    state[0] = nes2 << 1 | mapper << 2 | mirroring << 6;
-    state[1] = header[4];
-    state[2] = header[5];
-    state[3] = mirroring;
-    state[8..16].copy_from_slice(&(length as u64).to_le_bytes());
-    if mapper == 1 {
-        let prg_mode_3: u64 = 3 << 15;
-        state[16..24].copy_from_slice(&prg_mode_3.to_le_bytes());
-    }
-    state
+    let mirroring = u64::from(header[6] & 1);
+    let mut digits = [0; DIGITS];
+    let mut set = |digit: Digit, value: u64| digits[digit as usize] = value;
+    set(Digit::Version, 1);
+    set(Digit::Mapper, mapper.into());
+    set(Digit::Mode, HOUSE.into());
+    set(Digit::Nes2, u64::from(header[7] & 0x0c == 0x08));
+    set(Digit::HeaderMirroring, mirroring);
+    set(Digit::Mirroring, mirroring);
+    set(Digit::PrgRam, 1);
+    set(Digit::PrgCount, header[4].into());
+    set(Digit::ChrCount, header[5].into());
+    set(Digit::ImageLength, length as u64);
+    set(Digit::Mmc1PrgMode, if mapper == 1 { 3 } else { 0 });
+    set(Digit::RamEnabled, 1);
+    digits
 }
 
 /// A load on both sides.
@@ -68,18 +73,19 @@ pub fn compare_load(bytes: &Bytes, sabotage: Sabotage, tally: &mut Tally) -> Res
 
 fn check_accepted(bytes: &Bytes, ours: &Ours) -> Result<(), String> {
     let header: [u8; HEADER] = bytes.get()[..HEADER].try_into().expect("sixteen bytes");
-    if ours.state != start_state(&header, bytes.get().len()) {
-        return Err(format!("the state after the load is {:02x?}", ours.state));
+    let digits = Digits::of(&ours.state).map_err(|_| format!("the load leaves no state: {:02x?}", ours.state))?;
+    if *digits.all() != start_digits(&header, bytes.get().len()) {
+        return Err(format!("the state after the load holds {digits:?}"));
     }
     if ours.prg_ram.iter().chain(ours.chr_ram.iter()).any(|&byte| byte != 0) {
         return Err("a RAM is not all zeros after the load".into());
     }
     let wanted = Facts {
-        mapper: ours.state[0] >> 2 & 15,
-        mirroring: ours.state[0] >> 6,
-        nes2: ours.state[0] & 2 != 0,
-        prg_length: usize::from(ours.state[1]) * 16_384,
-        chr_length: usize::from(ours.state[2].max(1)) * 8_192,
+        mapper: digits[Digit::Mapper] as u8,
+        mirroring: digits[Digit::HeaderMirroring] as u8,
+        nes2: digits[Digit::Nes2] == 1,
+        prg_length: digits[Digit::PrgCount] as usize * 16_384,
+        chr_length: digits[Digit::ChrCount].max(1) as usize * 8_192,
     };
     let facts = original::facts(bytes);
     if facts.as_ref() != Some(&wanted) {

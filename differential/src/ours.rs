@@ -1,16 +1,13 @@
 //! Our side: a board of the exported library in house mode, with the buffers that it is lent.
 
+use biekkarul::Digits;
+
 use crate::events::{Answer, Event, Kind};
 use crate::images::Bytes;
-use crate::library;
+use crate::library::{self, RAM, STATE};
 use crate::sabotage::Sabotage;
 
-pub const STATE: usize = 40;
-pub const RAM: usize = 8_192;
 pub const HOUSE: u8 = 0;
-
-/// Any place in PRG RAM, for a sabotage.
-pub const PRG_RAM_MARK: usize = 5_000;
 
 pub struct Ours {
     image: Bytes,
@@ -61,6 +58,11 @@ impl Ours {
         let before = self.state;
         let answer = library::clock(&mut self.state);
         self.sabotage.clock(answer, &before)
+    }
+
+    /// What the state holds, once a load is accepted.
+    pub fn digits(&self) -> Digits {
+        Digits::of(&self.state).expect("a state that the library has made")
     }
 
     pub fn call(&mut self, event: &Event) -> Answer {

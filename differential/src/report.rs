@@ -6,10 +6,10 @@ use std::{fs, io};
 use crate::events::describe;
 use crate::original::Original;
 use crate::ours::Ours;
-use crate::run::{check, Failure};
 use crate::sabotage::Sabotage;
 use crate::shrink::{shrink, Case};
 use crate::trace;
+use crate::worker::{check, Failure};
 
 /// How often a case is tried while it is made small.
 const TRIES: usize = 20_000;

@@ -1,54 +1,26 @@
-//! From our state's bytes (docs/ABI.md): what a board's registers hold, and the writes that lead back to them.
-//! With these, a single write can be tried from the same state many times over, though the original's board cannot be
-//! copied.
+//! From our state's digits: the writes that lead back to what a board's registers hold. With these, a single write can
+//! be tried from the same state many times over, though the original's board cannot be copied.
+
+use biekkarul::{Digit, Digits};
 
 use crate::events::{clock, write, Event};
-use crate::ours::STATE;
 
-fn word(state: &[u8; STATE], number: usize) -> u64 {
-    u64::from_le_bytes(state[8 * number..8 * number + 8].try_into().expect("eight bytes"))
+/// A register, as a byte that is written to it.
+fn byte(digits: &Digits, digit: Digit) -> u8 {
+    digits[digit] as u8
 }
 
-fn digits(word: u64, from: u32, bits: u32) -> u8 {
-    (word >> from & ((1 << bits) - 1)) as u8
+/// MMC1's bits that have entered, in their order: they stand from bit 4 down, the last one highest.
+fn serial_bits(digits: &Digits) -> Vec<u8> {
+    let count = byte(digits, Digit::Mmc1SerialCount);
+    let entered = byte(digits, Digit::Mmc1SerialValue) >> (5 - count);
+    (0..count).map(|bit| entered >> bit & 1).collect()
 }
 
-pub fn mapper(state: &[u8; STATE]) -> u8 {
-    state[0] >> 2 & 15
-}
-
-/// MMC1's bits that have entered, in their order.
-fn serial_bits(state: &[u8; STATE]) -> Vec<u8> {
-    let mut entered = digits(word(state, 2), 10, 5) + 1;
-    let mut bits = Vec::new();
-    // 2^count - 1 + value: the leading one of its successor stands before the bits, the last entered one highest.
-    while entered > 1 {
-        bits.push(entered & 1);
-        entered >>= 1;
-    }
-    bits
-}
-
-fn mmc1_control(state: &[u8; STATE]) -> u8 {
-    let word = word(state, 2);
+fn mmc1_control(digits: &Digits) -> u8 {
     // House mode keeps no mirroring, so any will do; this is the one that the header asks for.
-    let mirroring = if state[0] >> 6 & 1 == 1 { 2 } else { 3 };
-    mirroring | digits(word, 15, 2) << 2 | digits(word, 17, 1) << 4
-}
-
-/// MMC3's eight registers as they would be written.
-pub fn mmc3_registers(state: &[u8; STATE]) -> [u8; 8] {
-    let word = word(state, 3);
-    [
-        digits(word, 0, 7) << 1,
-        digits(word, 7, 7) << 1,
-        digits(word, 14, 8),
-        digits(word, 22, 8),
-        digits(word, 30, 8),
-        digits(word, 38, 8),
-        digits(word, 46, 6),
-        digits(word, 52, 6),
-    ]
+    let mirroring = if digits[Digit::HeaderMirroring] == 1 { 2 } else { 3 };
+    mirroring | byte(digits, Digit::Mmc1PrgMode) << 2 | byte(digits, Digit::Mmc1ChrMode) << 4
 }
 
 /// MMC3's interrupt unit.
@@ -60,52 +32,63 @@ pub struct Irq {
     pub reload: bool,
 }
 
-fn irq(state: &[u8; STATE]) -> Irq {
-    Irq { latch: state[32], counter: state[33], enabled: state[34] & 0x20 != 0, reload: state[34] & 0x40 != 0 }
+fn irq(digits: &Digits) -> Irq {
+    Irq {
+        latch: byte(digits, Digit::Mmc3Latch),
+        counter: byte(digits, Digit::Mmc3Counter),
+        enabled: digits[Digit::Mmc3IrqEnabled] == 1,
+        reload: digits[Digit::Mmc3Reload] == 1,
+    }
 }
 
-fn mmc3_select(state: &[u8; STATE]) -> u8 {
-    state[34] & 7 | (state[34] & 0x08) << 3 | (state[34] & 0x10) << 3
+fn mmc3_select(digits: &Digits) -> u8 {
+    let modes = byte(digits, Digit::Mmc3PrgMode) << 6 | byte(digits, Digit::Mmc3ChrMode) << 7;
+    modes | byte(digits, Digit::Mmc3Select)
 }
 
-/// After a write to `address` from `state` (and clocks, if it was to MMC3's interrupt unit): events that lead back to
-/// `state`, RAM left aside.
-pub fn after_write(state: &[u8; STATE], address: u16, events: &mut Vec<Event>) {
-    match (mapper(state), address) {
-        (1, 0x8000..) => mmc1(state, address, events),
-        (2, 0x8000..) => events.push(write(0x8000, state[16])),
-        (3, 0x8000..) => events.push(write(0x8000, state[17] & 3)),
-        (4, 0x8000..) => mmc3(state, address, events),
+/// The register that the next data write goes to.
+fn mmc3_selected(digits: &Digits) -> u8 {
+    let registers = &digits.all()[Digit::Mmc3R0 as usize..];
+    registers[digits[Digit::Mmc3Select] as usize] as u8
+}
+
+/// After a write to `address` from a state (and clocks, if it was to MMC3's interrupt unit): events that lead back to
+/// it, RAM left aside.
+pub fn after_write(digits: &Digits, address: u16, events: &mut Vec<Event>) {
+    match (digits[Digit::Mapper], address) {
+        (1, 0x8000..) => mmc1(digits, address, events),
+        (2, 0x8000..) => events.push(write(0x8000, byte(digits, Digit::UxromBank))),
+        (3, 0x8000..) => events.push(write(0x8000, byte(digits, Digit::CnromBank))),
+        (4, 0x8000..) => mmc3(digits, address, events),
         _ => {}
     }
 }
 
 /// The serial register is cleared and its bits entered again; the fifth bit has also loaded a register.
-fn mmc1(state: &[u8; STATE], address: u16, events: &mut Vec<Event>) {
-    let bits = serial_bits(state);
+fn mmc1(digits: &Digits, address: u16, events: &mut Vec<Event>) {
+    let bits = serial_bits(digits);
     events.push(write(0x8000, 0x80));
     if bits.len() == 4 {
-        mmc1_reload(state, address & 0xe000, events);
+        mmc1_reload(digits, address & 0xe000, events);
     }
     events.extend(bits.into_iter().map(|bit| write(0x8000, bit)));
 }
 
-fn mmc1_reload(state: &[u8; STATE], register: u16, events: &mut Vec<Event>) {
-    let word = word(state, 2);
-    let four_kb = digits(word, 17, 1) == 1;
+fn mmc1_reload(digits: &Digits, register: u16, events: &mut Vec<Event>) {
+    let four_kb = digits[Digit::Mmc1ChrMode] == 1;
     let value = match register {
-        0x8000 => mmc1_control(state),
-        0xa000 => digits(word, 18, 5) << u8::from(!four_kb),
+        0x8000 => mmc1_control(digits),
+        0xa000 => byte(digits, Digit::Mmc1Chr0) << u8::from(!four_kb),
         // CHR 1 is ignored in 8 KB mode: it has not changed.
-        0xc000 => digits(word, 23, 5),
-        _ => digits(word, 28, 4),
+        0xc000 => byte(digits, Digit::Mmc1Chr1),
+        _ => byte(digits, Digit::Mmc1Prg),
     };
     // CHR 0 above 15 can only be stored whole, and is halved in 8 KB mode: it is led back through 4 KB mode.
     let through_4k = register == 0xa000 && !four_kb && value > 31;
     if through_4k {
-        mmc1_load(0x8000, mmc1_control(state) | 0x10, events);
-        mmc1_load(0xa000, digits(word, 18, 5), events);
-        mmc1_load(0x8000, mmc1_control(state), events);
+        mmc1_load(0x8000, mmc1_control(digits) | 0x10, events);
+        mmc1_load(0xa000, byte(digits, Digit::Mmc1Chr0), events);
+        mmc1_load(0x8000, mmc1_control(digits), events);
     } else {
         mmc1_load(register, value, events);
     }
@@ -115,12 +98,12 @@ pub fn mmc1_load(register: u16, value: u8, events: &mut Vec<Event>) {
     events.extend((0..5).map(|bit| write(register, value >> bit & 1)));
 }
 
-fn mmc3(state: &[u8; STATE], address: u16, events: &mut Vec<Event>) {
+fn mmc3(digits: &Digits, address: u16, events: &mut Vec<Event>) {
     match (address & 0xe000, address & 1) {
-        (0x8000, 0) => events.push(write(0x8000, mmc3_select(state))),
-        (0x8000, _) => events.push(write(0x8001, mmc3_registers(state)[usize::from(state[34] & 7)])),
+        (0x8000, 0) => events.push(write(0x8000, mmc3_select(digits))),
+        (0x8000, _) => events.push(write(0x8001, mmc3_selected(digits))),
         (0xa000, _) => {}
-        _ => mmc3_irq(irq(state), events),
+        _ => mmc3_irq(irq(digits), events),
     }
 }
 

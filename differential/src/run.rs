@@ -1,4 +1,4 @@
-//! Workers that play histories, and the jobs that a run is made of.
+//! The jobs that a run is made of, and the threads that take them.
 
 use std::ops::Range;
 use std::sync::atomic::{AtomicBool, AtomicU64, AtomicUsize, Ordering};
@@ -6,70 +6,14 @@ use std::sync::Mutex;
 use std::thread;
 use std::time::{Duration, Instant};
 
-use crate::compare::{Mismatch, Pair};
-use crate::events::Event;
 use crate::exhaustive::{self, Base, Depth};
 use crate::histories;
 use crate::images::{header, random_valid, Fill, Image, MAPPERS};
 use crate::load_jobs;
-use crate::loads;
 use crate::random::Random;
 use crate::sabotage::Sabotage;
-use crate::shrink::Case;
 use crate::tally::{grouped, Tally};
-
-/// A case on which the two sides part.
-#[derive(Clone)]
-pub struct Failure {
-    pub case: Case,
-    pub mismatch: Mismatch,
-}
-
-pub type Outcome = Result<(), Box<Failure>>;
-
-/// One thread's boards, counts and room for events.
-pub struct Worker {
-    pair: Pair,
-    pub events: Vec<Event>,
-    pub tally: Tally,
-    pub sabotage: Sabotage,
-}
-
-impl Worker {
-    pub fn new(sabotage: Sabotage) -> Worker {
-        Worker { pair: Pair::new(sabotage), events: Vec::new(), tally: Tally::default(), sabotage }
-    }
-
-    /// Plays `self.events` on a new board of this image; answers how many were played.
-    pub fn play_events(&mut self, image: &Image) -> Result<usize, Box<Failure>> {
-        self.pair.play(image, &self.events, &mut self.tally).map_err(|mismatch| {
-            let mut events = self.events.clone();
-            if let Some(last) = mismatch.event {
-                events.truncate(last + 1);
-            }
-            Box::new(Failure { case: Case { image: image.clone(), events }, mismatch })
-        })
-    }
-
-    /// The header reader and the load of an image, refused or not.
-    pub fn compare_image(&mut self, image: &Image) -> Outcome {
-        loads::compare_image(image, self.sabotage, &mut self.tally)
-            .map_err(|mismatch| Box::new(Failure { case: Case { image: image.clone(), events: Vec::new() }, mismatch }))
-    }
-}
-
-/// What is wrong with a case, if anything.
-pub fn check(case: &Case, sabotage: Sabotage) -> Option<Mismatch> {
-    let mut tally = Tally::default();
-    if let Err(mismatch) = loads::compare_image(&case.image, sabotage, &mut tally) {
-        return Some(mismatch);
-    }
-    let accepted = loads::by_the_paper(case.image.bytes.get()) == 0;
-    let played = accepted.then(|| Pair::new(sabotage).play(&case.image, &case.events, &mut tally));
-    played.and_then(Result::err)
-}
-
-type Job = Box<dyn Fn(&mut Worker) -> Outcome + Send + Sync>;
+use crate::worker::{Failure, Job, Outcome, Worker};
 
 const GATE_SEED: u64 = 4;
 const GATE_ROUNDS: u64 = 24_000;

@@ -1,8 +1,13 @@
 //! Faults that the harness puts into our side's answers to prove that the comparison finds them.
 //! Nothing here touches the library: an answer or a buffer is altered after the call.
 
+use biekkarul::{Digit, Digits};
+
 use crate::events::{Answer, PANICKED, REFUSED};
-use crate::ours::{PRG_RAM_MARK, STATE};
+use crate::library::STATE;
+
+/// Any place in PRG RAM.
+const PRG_RAM_MARK: usize = 5_000;
 
 #[derive(Clone, Copy, PartialEq, Eq, Debug)]
 pub enum Sabotage {
@@ -54,13 +59,12 @@ impl Sabotage {
     }
 
     pub fn read(self, answer: Answer, address: u16, state: &[u8; STATE]) -> Answer {
-        let mapper = state[0] >> 2 & 15;
         match self {
-            Sabotage::ReadByte if mapper == 4 && address & 0xe000 == 0xa000 && r7(state) >= 3 => {
+            Sabotage::ReadByte if address & 0xe000 == 0xa000 && digit(state, Digit::Mmc3R7) >= 3 => {
                 answer ^ (answer < REFUSED) as Answer
             }
             Sabotage::PastEnd if answer == REFUSED + 11 => 0,
-            Sabotage::Refuses if mapper == 2 && address == 0xffff => REFUSED + 11,
+            Sabotage::Refuses if address == 0xffff && digit(state, Digit::Mapper) == 2 => REFUSED + 11,
             Sabotage::OtherNumber if answer == REFUSED + 13 => REFUSED + 11,
             Sabotage::PanicNumber if answer == REFUSED + 13 => PANICKED,
             _ => answer,
@@ -89,8 +93,8 @@ impl Sabotage {
     }
 
     pub fn clock(self, answer: Answer, before: &[u8; STATE]) -> Answer {
-        let reload_with_latch_0 = before[32] == 0 && before[34] >> 6 & 1 == 1;
-        if self == Sabotage::ReloadClock && reload_with_latch_0 {
+        let reload_with_latch_0 = || digit(before, Digit::Mmc3Latch) == 0 && digit(before, Digit::Mmc3Reload) == 1;
+        if self == Sabotage::ReloadClock && reload_with_latch_0() {
             return 1;
         }
         answer
@@ -110,8 +114,7 @@ impl Sabotage {
     }
 }
 
-/// MMC3's R7, the last digit of word 3: after six bytes and R6's six bits.
-fn r7(state: &[u8; STATE]) -> u8 {
-    let word = u64::from_le_bytes(state[24..32].try_into().expect("eight bytes"));
-    (word >> 52) as u8 & 63
+/// What the state holds; on a board that has no such digit, and without a board, 0.
+fn digit(state: &[u8; STATE], digit: Digit) -> u64 {
+    Digits::of(state).map_or(0, |digits| digits[digit])
 }

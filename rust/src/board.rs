@@ -2,6 +2,7 @@
 
 use std::fmt;
 
+use crate::digits::{Digit, Digits};
 use crate::ffi;
 use crate::refusal::{accepted, foreign, Refusal};
 
@@ -25,6 +26,13 @@ impl Mode {
         match self {
             Mode::House => 0,
             Mode::Board => 1,
+        }
+    }
+
+    const fn of_digit(digit: u64) -> Mode {
+        match digit {
+            0 => Mode::House,
+            _ => Mode::Board,
         }
     }
 }
@@ -57,8 +65,8 @@ impl Mirroring {
         }
     }
 
-    const fn of_digit(digit: u8) -> Mirroring {
-        match digit % 4 {
+    const fn of_digit(digit: u64) -> Mirroring {
+        match digit {
             0 => Mirroring::Horizontal,
             1 => Mirroring::Vertical,
             2 => Mirroring::SingleScreenUpper,
@@ -127,9 +135,9 @@ impl<I: AsRef<[u8]>> Board<I> {
     /// Takes up a board where [`state`](Board::state), [`prg_ram`](Board::prg_ram) and
     /// [`chr_ram`](Board::chr_ram) were kept, with the image that it was loaded from.
     ///
-    /// Refusals, the first that applies: 9 for a RAM of another length; 10 for a state of another length;
-    /// those of [`load`](Board::load), as the image is loaded again; 10 for a state that is of another
-    /// image's cartridge, or that no board could have. Bytes of PRG and CHR data are not compared.
+    /// Refusals, the first that applies: 9 for a RAM of another length; 10 for a state that no board could
+    /// have, also one of another length or version; those of [`load`](Board::load), as the image is loaded
+    /// again; 10 for a state of another image's cartridge. Bytes of PRG and CHR data are not compared.
     ///
     /// ```
     /// use biekkarul::{Board, Mode, Refusal};
@@ -156,13 +164,12 @@ impl<I: AsRef<[u8]>> Board<I> {
         let prg_ram = <[u8; RAM_LENGTH]>::try_from(prg_ram).map_err(|_| Refusal::RamNot8K)?;
         let chr_ram = <[u8; RAM_LENGTH]>::try_from(chr_ram).map_err(|_| Refusal::RamNot8K)?;
         let state = <[u8; STATE_LENGTH]>::try_from(state).map_err(|_| Refusal::StateOutOfRange)?;
-        let mut board = Board::load(image, mode_in(&state))?;
-        if cartridge_in(&state) != cartridge_in(&board.state) {
+        let kept = Digits::of(&state)?;
+        let mut board = Board::load(image, Mode::of_digit(kept[Digit::Mode]))?;
+        let fresh = board.digits();
+        if CARTRIDGE.iter().any(|&digit| kept[digit] != fresh[digit]) {
             return Err(Refusal::StateOutOfRange);
         }
-        // A clock is refused exactly when the state is out of range; this one moves a copy.
-        let mut copy = state;
-        accepted(ffi::clock(&mut copy))?;
         board.state = state;
         *board.prg_ram = prg_ram;
         *board.chr_ram = chr_ram;
@@ -214,40 +221,50 @@ impl<I> Board<I> {
         accepted(ffi::clock(&mut self.state)).map(yes)
     }
 
+    /// What the board's registers hold, and what it knows of its cartridge, as numbers.
+    pub fn digits(&self) -> Digits {
+        Digits::of(&self.state).expect("the library takes every state that it has made")
+    }
+
+    /// Every digit but the length of the image is below 4,096.
+    fn small(&self, digit: Digit) -> u16 {
+        self.digits()[digit] as u16
+    }
+
     /// The mode that the image was loaded in.
     pub fn mode(&self) -> Mode {
-        mode_in(&self.state)
+        Mode::of_digit(self.digits()[Digit::Mode])
     }
 
     /// The mapper number: 0 NROM, 1 MMC1, 2 UxROM, 3 CNROM, 4 MMC3.
     pub fn mapper(&self) -> u16 {
-        u16::from(self.state[0] / 4 % 16)
+        self.small(Digit::Mapper)
     }
 
     /// Whether the header marks NES 2.0; the mark changes nothing.
     pub fn is_nes2(&self) -> bool {
-        self.state[0] / 2 % 2 == 1
+        self.digits()[Digit::Nes2] == 1
     }
 
     /// The mirroring that the header asks for: horizontal or vertical. The screens start with it.
     pub fn header_mirroring(&self) -> Mirroring {
-        Mirroring::of_digit(self.state[0] / 64)
+        Mirroring::of_digit(self.digits()[Digit::HeaderMirroring])
     }
 
     /// The mirroring that the next notice is compared with: in board mode the current one, in house mode
     /// always the header's, as in potatis. Who needs house mode's last notice keeps it.
     pub fn mirroring(&self) -> Mirroring {
-        Mirroring::of_digit(self.state[3])
+        Mirroring::of_digit(self.digits()[Digit::Mirroring])
     }
 
     /// The count of 16,384-byte PRG blocks.
     pub fn prg_count(&self) -> u16 {
-        u16::from(self.state[1])
+        self.small(Digit::PrgCount)
     }
 
     /// The count of 8,192-byte CHR blocks; 0 means CHR RAM.
     pub fn chr_count(&self) -> u16 {
-        u16::from(self.state[2])
+        self.small(Digit::ChrCount)
     }
 
     /// PRG RAM: what a game saves.
@@ -290,18 +307,18 @@ impl<I> fmt::Debug for Board<I> {
     }
 }
 
-fn mode_in(state: &[u8; STATE_LENGTH]) -> Mode {
-    if state[0] % 2 == 0 {
-        Mode::House
-    } else {
-        Mode::Board
-    }
-}
-
-/// What a load fixes for good: mode, mark, mapper, header's mirroring, counts, and the image's length.
-fn cartridge_in(state: &[u8; STATE_LENGTH]) -> (&[u8], &[u8]) {
-    (&state[..3], &state[8..16])
-}
+/// What a load fixes for good.
+const CARTRIDGE: [Digit; 9] = [
+    Digit::Version,
+    Digit::Mapper,
+    Digit::Mode,
+    Digit::Nes2,
+    Digit::HeaderMirroring,
+    Digit::PrgRam,
+    Digit::PrgCount,
+    Digit::ChrCount,
+    Digit::ImageLength,
+];
 
 #[inline]
 fn notice(answer: u8) -> Option<Mirroring> {

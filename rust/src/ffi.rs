@@ -3,7 +3,7 @@
 //! Every call below rests on the same three facts:
 //!
 //! - **Valid.** Each pointer and length come from one Rust slice, so the memory is there, initialized,
-//!   and stays borrowed until the call returns. A slice's pointer is never null, even with length 0.
+//!   aligned, and stays borrowed until the call returns. A slice's pointer is never null, even with length 0.
 //! - **No overlap.** What the library writes is a `&mut` slice, which Rust lets overlap with no other
 //!   argument. Shared slices are only read.
 //! - **Nothing more.** The library is proved to touch no byte outside the lent lengths, for every input;
@@ -59,6 +59,13 @@ extern "C" {
     ) -> u16;
 
     fn biekkarul_clock(state: *mut u8, state_length: usize) -> u16;
+
+    fn biekkarul_digits(
+        state: *const u8,
+        state_length: usize,
+        digits: *mut u64,
+        digits_length: usize,
+    ) -> u16;
 }
 
 #[inline]
@@ -155,4 +162,18 @@ pub(crate) fn write(
 pub(crate) fn clock(state: &mut [u8]) -> u16 {
     // SAFETY: the pair is a whole slice and exclusive. Every state is taken.
     unsafe { biekkarul_clock(state.as_mut_ptr(), state.len()) }
+}
+
+#[inline]
+pub(crate) fn digits(state: &[u8], digits: &mut [u64]) -> u16 {
+    // SAFETY: both pairs are whole slices, and `digits`, whose length counts numbers as the library does, is
+    // exclusive, so it is not part of `state`. Every state is taken.
+    unsafe {
+        biekkarul_digits(
+            state.as_ptr(),
+            state.len(),
+            digits.as_mut_ptr(),
+            digits.len(),
+        )
+    }
 }

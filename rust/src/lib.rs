@@ -26,6 +26,7 @@
 //!
 //! - [`Board`] is one cartridge in one [`Mode`], with its registers and both RAMs.
 //! - [`Refusal`] says why a call was refused. A refused call has changed nothing.
+//! - [`Digits`] are what a kept state holds, register by register.
 //! - [`bus`] has the same board in the shape of the emulator's bus.
 //! - [`trace`] plays a recorded trace and gives its text.
 //! - [`Header`] is the header alone.
@@ -35,11 +36,13 @@
 
 mod board;
 pub mod bus;
+mod digits;
 mod ffi;
 mod header;
 mod refusal;
 pub mod trace;
 
 pub use board::{Board, Mirroring, Mode, RAM_LENGTH, STATE_LENGTH};
+pub use digits::{Digit, Digits, DIGITS};
 pub use header::Header;
 pub use refusal::Refusal;

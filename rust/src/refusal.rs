@@ -38,8 +38,8 @@ pub enum Refusal {
     CountNoPowerOfTwo = 8,
     /// Load, read, write: a RAM is not exactly 8,192 bytes.
     RamNot8K = 9,
-    /// Read, write, clock: the state is none that a board could have. Read, write: or the image has
-    /// another length than the one loaded. Restore: or the state is another cartridge's.
+    /// Read, write, clock, digits: the state is none that a board could have. Read, write: or the image
+    /// has another length than the one loaded. Restore: or the state is another cartridge's.
     StateOutOfRange = 10,
     /// House read: the bank ends past the data.
     BankPastData = 11,

@@ -2,10 +2,8 @@
 
 mod common;
 
-use biekkarul::{Board, Mirroring, Mode, Refusal};
-use common::{
-    data, digit, image, load, serial, BOTH_MODES, CNROM, MMC1, MMC3, NROM, UXROM, VERTICAL,
-};
+use biekkarul::{Board, Digit, Mirroring, Mode, Refusal};
+use common::{data, image, load, serial, BOTH_MODES, CNROM, MMC1, MMC3, NROM, UXROM, VERTICAL};
 
 fn refusal(image: &[u8], mode: Mode) -> Option<Refusal> {
     Board::load(image, mode).err()
@@ -59,23 +57,32 @@ fn p6_one_byte_short() {
     assert_eq!(refusal(&image, Mode::House), None);
 }
 
+/// The count and the value.
+fn serial_register(board: &Board) -> (u64, u64) {
+    let digits = board.digits();
+    (
+        digits[Digit::Mmc1SerialCount],
+        digits[Digit::Mmc1SerialValue],
+    )
+}
+
 /// Control 19: mirroring bits 3, PRG mode 0, 4 KB CHR mode.
 #[test]
 fn p7_control_19() {
     let mut board = load(MMC1 | VERTICAL, 2, 1, Mode::House);
-    for (bit, serial) in [(1, 2), (1, 6), (0, 10), (0, 18)] {
+    for (bit, register) in [(1, (1, 16)), (1, (2, 24)), (0, (3, 12)), (0, (4, 6))] {
         assert_eq!(board.write(0x8000, bit), Ok(None));
-        assert_eq!(digit(&board.state(), 2, 10, 32), serial, "serial register");
+        assert_eq!(serial_register(&board), register);
     }
     assert_eq!(board.write(0x8000, 1), Ok(Some(Mirroring::Horizontal)));
-    assert_eq!(digit(&board.state(), 2, 15, 4), 0, "PRG mode");
-    assert_eq!(digit(&board.state(), 2, 17, 2), 1, "CHR mode");
+    assert_eq!(board.digits()[Digit::Mmc1PrgMode], 0);
+    assert_eq!(board.digits()[Digit::Mmc1ChrMode], 1);
 }
 
 #[test]
 fn p8_a_reset_within_the_serial_bits() {
     let mut board = load(MMC1, 8, 1, Mode::House);
-    let prg = |board: &Board| digit(&board.state(), 2, 28, 16);
+    let prg = |board: &Board| board.digits()[Digit::Mmc1Prg];
     assert_eq!(serial(&mut board, 0xE000, 5), Ok(None));
     assert_eq!(prg(&board), 5);
     for byte in [1, 1, 1, 1, 0x80, 0, 0, 0, 0] {
@@ -84,7 +91,7 @@ fn p8_a_reset_within_the_serial_bits() {
     }
     assert_eq!(board.write(0xE000, 0), Ok(None));
     assert_eq!(prg(&board), 0);
-    assert_eq!(digit(&board.state(), 2, 10, 32), 0, "serial register");
+    assert_eq!(serial_register(&board), (0, 0));
     assert_eq!(board.read(0x8000), Ok(data(0)));
 }
 

@@ -2,8 +2,10 @@
 
 mod common;
 
-use biekkarul::{Board, Mode, Refusal, RAM_LENGTH, STATE_LENGTH};
-use common::{image, kept, load, Numbers, BOTH_MODES, CNROM, MMC1, MMC3, NROM, UXROM};
+use biekkarul::{Board, Digit, Digits, Mode, Refusal, DIGITS, RAM_LENGTH, STATE_LENGTH};
+use common::{
+    image, kept, load, packed, with, Numbers, BOTH_MODES, CNROM, MMC1, MMC3, NROM, UXROM,
+};
 
 const RAM: [u8; RAM_LENGTH] = [0; RAM_LENGTH];
 
@@ -37,6 +39,7 @@ fn a_restored_board_goes_on_as_the_first() {
                     panic!("mapper {mapper:02X} {mode:?} {round}: {refusal}")
                 });
                 assert!(kept(&first) == kept(&second));
+                assert_eq!(packed(first.digits().all()), first.state());
                 for _ in 0..20 {
                     let (address, value) = (numbers.next() as u16, numbers.next() as u8);
                     assert_eq!(first.write(address, value), second.write(address, value));
@@ -66,6 +69,8 @@ fn rams_first_then_the_states_length_then_the_image() {
         other.resize(length, 0);
         assert_eq!(restore(&bytes[..0], &other), Err(Refusal::StateOutOfRange));
     }
+    let other = [0xFF; STATE_LENGTH];
+    assert_eq!(restore(&bytes[..0], &other), Err(Refusal::StateOutOfRange));
     assert_eq!(restore(&bytes[..0], &state), Err(Refusal::ImageNotInes));
     assert_eq!(restore(&bytes, &state), Ok(()));
 }
@@ -90,36 +95,74 @@ fn a_state_of_another_cartridge_is_refused() {
     assert_eq!(restore(&image(UXROM, 2, 0), &state), Ok(()));
 }
 
-/// Every bit that a fresh NROM state has beside its cartridge is one that no NROM board sets.
+/// Of a fresh NROM state only the mode may be another one: each further bit is fixed by the image, or is one
+/// that no NROM board sets.
 #[test]
 fn a_state_that_no_board_could_have_is_refused() {
     let bytes = image(NROM, 1, 0);
     for mode in BOTH_MODES {
         let state = load(NROM, 1, 0, mode).state();
-        for bit in 24..8 * STATE_LENGTH {
+        let in_either_mode = BOTH_MODES.map(|mode| load(NROM, 1, 0, mode).state());
+        for bit in 0..8 * STATE_LENGTH {
             let mut bad = state;
             bad[bit / 8] ^= 1 << (bit % 8);
-            assert_eq!(
-                restore(&bytes, &bad),
-                Err(Refusal::StateOutOfRange),
-                "{mode:?}, bit {bit}"
-            );
+            let wanted = if in_either_mode.contains(&bad) {
+                Ok(())
+            } else {
+                Err(Refusal::StateOutOfRange)
+            };
+            assert_eq!(restore(&bytes, &bad), wanted, "{mode:?}, bit {bit}");
         }
     }
 }
 
-/// 31 is the one serial digit that no MMC1 board has.
+/// "A kept state carries its version; one of another version is refused with 10."
+#[test]
+fn a_state_of_another_version_is_refused() {
+    for mapper in [NROM, MMC1, UXROM, CNROM, MMC3] {
+        let board = load(mapper, 2, 1, Mode::Board);
+        for version in 0..256 {
+            let state = packed(&with(board.digits(), Digit::Version, version));
+            assert_eq!(Digits::of(&state).is_ok(), version == 1, "{version}");
+            assert_eq!(restore(board.image(), &state).is_ok(), version == 1);
+        }
+    }
+}
+
+/// "serial count 0-4, serial value up to 31 and a multiple of 2^(5 - count)"
 #[test]
 fn a_serial_register_that_is_none_is_refused() {
     let bytes = image(MMC1, 2, 1);
     for mode in BOTH_MODES {
-        let state = load(MMC1, 2, 1, mode).state();
-        for serial in 0..32 {
-            let mut other = state;
-            other[17] = (other[17] & 0x83) | serial << 2;
-            assert_eq!(restore(&bytes, &other).is_ok(), serial < 31, "{serial}");
+        let mut digits = *load(MMC1, 2, 1, mode).digits().all();
+        for (count, value) in (0..8).flat_map(|count| (0..32).map(move |value| (count, value))) {
+            digits[Digit::Mmc1SerialCount as usize] = count;
+            digits[Digit::Mmc1SerialValue as usize] = value;
+            let is_one = count <= 4 && value % (1 << (5 - count)) == 0;
+            let restored = restore(&bytes, &packed(&digits));
+            assert_eq!(restored.is_ok(), is_one, "{count} {value}");
         }
     }
+}
+
+#[test]
+fn digits_of_a_state_are_told_in_their_order() {
+    let mut board = load(MMC3, 2, 1, Mode::Board);
+    for register in 0..8 {
+        board.write(0x8000, register).unwrap();
+        board.write(0x8001, 2 + 4 * register).unwrap();
+    }
+    for (address, value) in [(0x8000, 0xC5), (0xC000, 9), (0xC001, 0), (0xE001, 0)] {
+        board.write(address, value).unwrap();
+    }
+    board.clock().unwrap();
+    board.write(0xC000, 8).unwrap();
+    let mut wanted = [0; DIGITS];
+    wanted[..10].copy_from_slice(&[1, 4, 1, 0, 0, 0, 1, 2, 1, 16 + 2 * 16_384 + 8_192]);
+    wanted[22..].copy_from_slice(&[2, 6, 10, 14, 18, 22, 26, 30, 8, 9, 5, 1, 1, 1, 0, 0, 1, 0]);
+    assert_eq!(board.digits().all(), &wanted);
+    assert_eq!(board.digits()[Digit::Mmc3Latch], 8);
+    assert_eq!(board.digits()[Digit::RamEnabled], 1);
 }
 
 #[test]

@@ -119,11 +119,11 @@ fn call_by_call() {
 /// docs/ABI.md decodes these bytes by hand.
 #[rustfmt::skip]
 const STATE_AT_THE_END: [u8; 40] = [
-    0x50, 0x01, 0x01, 0x01, 0, 0, 0, 0,
+    0x01, 0x04, 0x54, 0x01, 0x10, 0, 0, 0,
     0x10, 0x60, 0, 0, 0, 0, 0, 0,
     0, 0, 0, 0, 0, 0, 0, 0,
-    0, 0, 0x02, 0, 0, 0, 0, 0,
-    0x01, 0x01, 0x22, 0, 0, 0, 0, 0,
+    0, 0, 0x08, 0, 0, 0, 0, 0,
+    0x01, 0x01, 0x22, 0x01, 0, 0, 0, 0,
 ];
 
 /// In board mode the same events give other answers: the reload clock counts, the disabling write is

@@ -1,8 +1,9 @@
 /*
  * Calls every exported function from C, against include/biekkarul.h, and checks its answers:
- * document 01's P lines, the order of the refusals, and which states are taken. The last is held against a
- * second reading of docs/ABI.md that stands here (could_be): every digit at every value, and every state
- * that differs from a loaded one in one or two bits. Whatever is refused must leave every buffer as it was.
+ * document 01's P lines, the order of the refusals, which states are taken and what they are read into. The
+ * last two are held against a second reading of docs/ABI.md that stands here, by shifts and masks of its own
+ * (get, could_be): every digit at every value, and every state that differs from a loaded one in one or two
+ * bits. Whatever is refused must leave every buffer as it was.
  */
 #include "biekkarul.h"
 
@@ -15,6 +16,7 @@
 #define PRG_BLOCK 16384u
 #define CHR_BLOCK 8192u
 #define MOST 40 /* messages before we stop */
+#define NO_NUMBER 0xA5A5A5A5A5A5A5A5u /* what a number holds before it is written */
 
 enum mapper { NROM, MMC1, UXROM, CNROM, MMC3, MAPPERS };
 
@@ -102,7 +104,11 @@ static void start(unsigned byte6, unsigned prg, unsigned chr, unsigned mode) {
     expect("a good load", load(mode), 0);
 }
 
-/* Digits of the state, as docs/ABI.md lays them out: word, lowest bit, count of bits. */
+/*
+ * The layout of docs/ABI.md, this test's own: word, lowest bit, count of bits. The digits stand in the order of
+ * the page, so that a digit's number here is its place among those that a state is read into; behind them
+ * stands what is left of each word.
+ */
 
 struct digit {
     const char *name;
@@ -110,28 +116,33 @@ struct digit {
 };
 
 enum digit_name {
-    MODE, NES2, MAPPER, HEADER_MIRRORING, PRG, CHR, MIRRORING, REST0,
+    VERSION, MAPPER, MODE, NES2, HEADER_MIRRORING, MIRRORING, PRG_RAM, PRG, CHR,
     LENGTH,
-    UXROM_BANK, CNROM_BANK, SERIAL, PRG_MODE1, CHR_MODE1, CHR0, CHR1, PRG1, REST2,
-    R0, R1, R2, R3, R4, R5, R6, R7, REST3,
-    LATCH, COUNTER, SELECT, PRG_MODE3, CHR_MODE3, ENABLED, RELOAD, REST4,
+    UXROM_BANK, CNROM_BANK, AXROM_BANK, GXROM_PRG_BANK, GXROM_CHR_BANK,
+    SERIAL_COUNT, SERIAL_VALUE, PRG_MODE1, CHR_MODE1, CHR0, CHR1, PRG1,
+    R0, R1, R2, R3, R4, R5, R6, R7,
+    LATCH, COUNTER, SELECT, PRG_MODE3, CHR_MODE3, IRQ_ENABLED, RELOAD, IRQ_LINE, RAM_ENABLED, RAM_DENIED,
+    NUMBERS,
+    REST0 = NUMBERS, REST2, REST4,
     DIGITS
 };
 
 static const struct digit digits[DIGITS] = {
-    {"mode", 0, 0, 1}, {"NES 2.0 mark", 0, 1, 1}, {"mapper", 0, 2, 4}, {"header mirroring", 0, 6, 2},
-    {"PRG count", 0, 8, 8}, {"CHR count", 0, 16, 8}, {"current mirroring", 0, 24, 2},
-    {"rest of word 0", 0, 26, 38},
+    {"version", 0, 0, 8}, {"mapper", 0, 8, 8}, {"mode", 0, 16, 1}, {"NES 2.0 mark", 0, 17, 1},
+    {"header mirroring", 0, 18, 2}, {"current mirroring", 0, 20, 2}, {"PRG RAM", 0, 22, 2},
+    {"PRG count", 0, 24, 12}, {"CHR count", 0, 36, 12},
     {"length", 1, 0, 64},
-    {"UxROM bank", 2, 0, 8}, {"CNROM bank", 2, 8, 2}, {"MMC1 serial", 2, 10, 5},
-    {"MMC1 PRG mode", 2, 15, 2}, {"MMC1 CHR mode", 2, 17, 1}, {"MMC1 CHR 0", 2, 18, 5},
-    {"MMC1 CHR 1", 2, 23, 5}, {"MMC1 PRG", 2, 28, 4}, {"rest of word 2", 2, 32, 32},
-    {"MMC3 R0", 3, 0, 7}, {"MMC3 R1", 3, 7, 7}, {"MMC3 R2", 3, 14, 8}, {"MMC3 R3", 3, 22, 8},
-    {"MMC3 R4", 3, 30, 8}, {"MMC3 R5", 3, 38, 8}, {"MMC3 R6", 3, 46, 6}, {"MMC3 R7", 3, 52, 6},
-    {"rest of word 3", 3, 58, 6},
+    {"UxROM bank", 2, 0, 8}, {"CNROM bank", 2, 8, 2}, {"AxROM bank", 2, 10, 3},
+    {"GxROM PRG bank", 2, 13, 2}, {"GxROM CHR bank", 2, 15, 2},
+    {"MMC1 serial count", 2, 17, 3}, {"MMC1 serial value", 2, 20, 5}, {"MMC1 PRG mode", 2, 25, 2},
+    {"MMC1 CHR mode", 2, 27, 1}, {"MMC1 CHR 0", 2, 28, 5}, {"MMC1 CHR 1", 2, 33, 5}, {"MMC1 PRG", 2, 38, 4},
+    {"MMC3 R0", 3, 0, 8}, {"MMC3 R1", 3, 8, 8}, {"MMC3 R2", 3, 16, 8}, {"MMC3 R3", 3, 24, 8},
+    {"MMC3 R4", 3, 32, 8}, {"MMC3 R5", 3, 40, 8}, {"MMC3 R6", 3, 48, 8}, {"MMC3 R7", 3, 56, 8},
     {"MMC3 latch", 4, 0, 8}, {"MMC3 counter", 4, 8, 8}, {"MMC3 select", 4, 16, 3},
     {"MMC3 PRG mode", 4, 19, 1}, {"MMC3 CHR mode", 4, 20, 1}, {"MMC3 IRQ enabled", 4, 21, 1},
-    {"MMC3 reload mark", 4, 22, 1}, {"rest of word 4", 4, 23, 41},
+    {"MMC3 reload mark", 4, 22, 1}, {"MMC3 IRQ line", 4, 23, 1}, {"RAM enabled", 4, 24, 1},
+    {"RAM writes denied", 4, 25, 1},
+    {"rest of word 0", 0, 48, 16}, {"rest of word 2", 2, 42, 22}, {"rest of word 4", 4, 26, 38},
 };
 
 static uint64_t word_of(const uint8_t *state, unsigned word) {
@@ -163,7 +174,7 @@ static int power_of_two(uint64_t n) { return n != 0 && (n & (n - 1)) == 0; }
 /* Mode, mapper, counts, length and header's mirroring as a load could leave them. */
 static int cart_could_be(const uint8_t *s) {
     uint64_t mapper = get(s, MAPPER), prg = get(s, PRG), chr = get(s, CHR);
-    if (mapper > MMC3 || get(s, HEADER_MIRRORING) > 1 || prg == 0) return 0;
+    if (mapper > MMC3 || get(s, HEADER_MIRRORING) > 1 || prg == 0 || prg > 255 || chr > 255) return 0;
     if ((mapper == NROM || mapper == CNROM) && prg > 2) return 0;
     if (get(s, MODE) == BIEKKARUL_BOARD && !(power_of_two(prg) && (chr == 0 || power_of_two(chr)))) return 0;
     return get(s, LENGTH) >= HEADER_LENGTH + PRG_BLOCK * prg + CHR_BLOCK * chr;
@@ -176,27 +187,50 @@ static int mirroring_could_be(const uint8_t *s) {
     return current == get(s, HEADER_MIRRORING);
 }
 
-static int board_could_be(const uint8_t *s) {
-    uint8_t used[BIEKKARUL_STATE_LENGTH];
-    memcpy(used, s, sizeof used);
-    if (get(s, MAPPER) == UXROM) set(used, UXROM_BANK, 0);
-    if (get(s, MAPPER) == CNROM) set(used, CNROM_BANK, 0);
-    if (get(s, MAPPER) == MMC1) {
-        int name;
-        if (get(s, SERIAL) == 31) return 0;
-        for (name = SERIAL; name <= PRG1; name++) set(used, (enum digit_name)name, 0);
-    }
-    if (get(s, MAPPER) == MMC3) {
-        int name;
-        for (name = R0; name <= R7; name++) set(used, (enum digit_name)name, 0);
-        for (name = LATCH; name <= RELOAD; name++) set(used, (enum digit_name)name, 0);
-    }
-    /* What is left is not used, or stands above the last digit. */
-    return get(used, REST0) == 0 && word_of(used, 2) == 0 && word_of(used, 3) == 0 && word_of(used, 4) == 0;
+/* The board that a digit of words 2 to 4 belongs to; MAPPERS for a reserved one, which has a value of its own. */
+static unsigned owner_of(int name) {
+    if (name == UXROM_BANK) return UXROM;
+    if (name == CNROM_BANK) return CNROM;
+    if (name >= SERIAL_COUNT && name <= PRG1) return MMC1;
+    if (name >= R0 && name <= RELOAD) return MMC3;
+    return MAPPERS;
 }
 
-static int could_be(const uint8_t *state) {
-    return cart_could_be(state) && mirroring_could_be(state) && board_could_be(state);
+/* "every digit of another board than this one's is 0", and what is reserved or left of a word is as it must be. */
+static int others_could_be(const uint8_t *s) {
+    int name;
+    if (get(s, VERSION) != BIEKKARUL_STATE_VERSION || get(s, PRG_RAM) != 1) return 0;
+    for (name = UXROM_BANK; name < DIGITS; name++) {
+        uint64_t fixed = name == RAM_ENABLED;
+        if (owner_of(name) != get(s, MAPPER) && get(s, (enum digit_name)name) != fixed) return 0;
+    }
+    return 1;
+}
+
+static int board_could_be(const uint8_t *s) {
+    uint64_t count = get(s, SERIAL_COUNT);
+    switch (get(s, MAPPER)) {
+    case MMC1: return count <= 4 && get(s, SERIAL_VALUE) % (1u << (5 - count)) == 0;
+    case MMC3: return get(s, R0) % 2 == 0 && get(s, R1) % 2 == 0 && get(s, R6) <= 63 && get(s, R7) <= 63;
+    default: return 1;
+    }
+}
+
+static int could_be(const uint8_t *s) {
+    return cart_could_be(s) && mirroring_could_be(s) && others_could_be(s) && board_could_be(s);
+}
+
+/* The state in now, whatever it is: it is read into its digits exactly when it could be. */
+static void check_reading(const char *what) {
+    uint64_t numbers[BIEKKARUL_DIGITS + 1];
+    int i, wanted = could_be(now.state);
+    unsigned answer;
+    memset(numbers, 0xA5, sizeof numbers);
+    answer = biekkarul_digits(now.state, BIEKKARUL_STATE_LENGTH, numbers, BIEKKARUL_DIGITS);
+    expect(what, answer, wanted ? 0 : REFUSED(BIEKKARUL_STATE_OUT_OF_RANGE));
+    for (i = 0; i < BIEKKARUL_DIGITS; i++)
+        expect(digits[i].name, numbers[i], wanted ? get(now.state, (enum digit_name)i) : NO_NUMBER);
+    expect("nothing past the digits", numbers[BIEKKARUL_DIGITS], NO_NUMBER);
 }
 
 /* The state in now, whatever it is: a clock takes exactly the states that could be. */
@@ -232,33 +266,53 @@ static void check_read_and_write(const char *what) {
 }
 
 static void check_state(const char *what) {
+    check_reading(what);
     check_clock(what);
     check_read_and_write(what);
 }
 
-/* Every digit at every value it can be written with; long ones at their edges. */
+static void check_digit(enum digit_name name, uint64_t value) {
+    uint8_t good[BIEKKARUL_STATE_LENGTH];
+    memcpy(good, now.state, sizeof good);
+    set(now.state, name, value);
+    check_state(digits[name].name);
+    memcpy(now.state, good, sizeof good);
+}
+
+/*
+ * Every digit at every value it can be written with; of long ones all values up to 300, and the powers of two
+ * with their neighbours.
+ */
 static void check_digits(void) {
     struct buffers good = now;
     int name;
     for (name = 0; name < DIGITS; name++) {
-        const struct digit *d = &digits[name];
-        unsigned values = d->bits <= 8 ? 1u << d->bits : d->bits, i;
-        for (i = 0; i < values; i++) {
-            set(now.state, (enum digit_name)name, d->bits <= 8 ? i : (uint64_t)1 << i);
-            check_state(d->name);
-            now = good;
+        unsigned bits = digits[name].bits, values = bits <= 8 ? 1u << bits : 301, i;
+        for (i = 0; i < values; i++) check_digit((enum digit_name)name, i);
+        for (i = 8; i < bits; i++) {
+            uint64_t power = (uint64_t)1 << i;
+            check_digit((enum digit_name)name, power - 1);
+            check_digit((enum digit_name)name, power);
+            check_digit((enum digit_name)name, power + 1);
         }
     }
-    set(now.state, LENGTH, image_length - 1);
-    check_state("a length too short by one");
-    set(now.state, LENGTH, image_length + 1);
-    check_state("a length above the image's");
-    now = good;
+    expect("the digits are put back", memcmp(&now, &good, sizeof now) != 0, 0);
+}
+
+/* From the loaded state, and with a length that leaves room for every count. */
+static void check_all_digits(void) {
+    uint64_t length = get(now.state, LENGTH);
+    check_digit(LENGTH, length - 1);
+    check_digit(LENGTH, length + 1);
+    check_digits();
+    set(now.state, LENGTH, UINT64_MAX);
+    check_digits();
+    set(now.state, LENGTH, length);
 }
 
 static void flip(unsigned bit) { now.state[bit / 8] ^= (uint8_t)(1u << bit % 8); }
 
-/* The clock alone, without the comparison of all buffers, since there are many pairs. */
+/* The clock and the digits alone, without the comparison of all buffers, since there are many pairs. */
 static void check_two_bits(void) {
     uint8_t good[BIEKKARUL_STATE_LENGTH], flipped[BIEKKARUL_STATE_LENGTH];
     unsigned a, b, bits = 8 * BIEKKARUL_STATE_LENGTH;
@@ -269,6 +323,7 @@ static void check_two_bits(void) {
             flip(a);
             if (b != a) flip(b);
             memcpy(flipped, now.state, sizeof flipped);
+            check_reading("one or two bits flipped, read");
             answer = clock_once();
             expect("one or two bits flipped", answer != REFUSED(BIEKKARUL_STATE_OUT_OF_RANGE),
                    (unsigned)could_be(flipped));
@@ -282,10 +337,13 @@ static void check_two_bits(void) {
 static void check_states(void) {
     static const unsigned chr_counts[MAPPERS] = {0, 2, 0, 4, 4};
     unsigned mapper, mode;
+    expect("as many places as the header has", NUMBERS, BIEKKARUL_DIGITS);
+    expect("the header's last place", BIEKKARUL_DIGIT_RAM_WRITES_DENIED + 1, BIEKKARUL_DIGITS);
     for (mapper = NROM; mapper < MAPPERS; mapper++) {
         for (mode = BIEKKARUL_HOUSE; mode <= BIEKKARUL_BOARD; mode++) {
             start(mapper * 16 + 1, 2, chr_counts[mapper], mode);
             expect("the loaded state could be", (unsigned)could_be(now.state), 1);
+            expect("version", (unsigned)get(now.state, VERSION), 1);
             expect("mode", (unsigned)get(now.state, MODE), mode);
             expect("mapper", (unsigned)get(now.state, MAPPER), mapper);
             expect("header mirroring", (unsigned)get(now.state, HEADER_MIRRORING), 1);
@@ -294,7 +352,8 @@ static void check_states(void) {
             expect("CHR count", (unsigned)get(now.state, CHR), chr_counts[mapper]);
             expect("length", (unsigned)get(now.state, LENGTH), (unsigned)image_length);
             expect("MMC1 PRG mode", (unsigned)get(now.state, PRG_MODE1), mapper == MMC1 ? 3 : 0);
-            check_digits();
+            expect("RAM enabled", (unsigned)get(now.state, RAM_ENABLED), 1);
+            check_all_digits();
             check_two_bits();
         }
     }
@@ -305,15 +364,20 @@ static void check_states(void) {
 static void check_wrong_lengths(void) {
     static const size_t states[3] = {0, BIEKKARUL_STATE_LENGTH - 1, BIEKKARUL_STATE_LENGTH + 1};
     static const size_t rams[3] = {0, BIEKKARUL_RAM_LENGTH - 1, BIEKKARUL_RAM_LENGTH + 1};
-    const size_t state = BIEKKARUL_STATE_LENGTH, ram = BIEKKARUL_RAM_LENGTH;
+    static const size_t counts[3] = {0, BIEKKARUL_DIGITS - 1, BIEKKARUL_DIGITS + 1};
+    const size_t state = BIEKKARUL_STATE_LENGTH, ram = BIEKKARUL_RAM_LENGTH, count = BIEKKARUL_DIGITS;
     const unsigned nine = REFUSED(BIEKKARUL_RAM_NOT_8K), ten = REFUSED(BIEKKARUL_STATE_OUT_OF_RANGE);
+    uint64_t numbers[BIEKKARUL_DIGITS + 1];
     unsigned i;
+    memset(numbers, 0xA5, sizeof numbers);
     start(NROM * 16, 1, 0, BIEKKARUL_HOUSE);
     keep();
     for (i = 0; i < 3; i++) {
         expect("read, state length", read_with(states[i], ram, ram, 0x8000), ten);
         expect("write, state length", write_with(states[i], ram, ram, 0, 1), ten);
         expect("clock, state length", biekkarul_clock(now.state, states[i]), ten);
+        expect("digits, state length", biekkarul_digits(now.state, states[i], numbers, count), ten);
+        expect("digits, count", biekkarul_digits(now.state, state, numbers, counts[i]), ten);
         expect("load, state length", load_with(BIEKKARUL_HOUSE, states[i], ram, ram), ten);
         expect("read, PRG RAM length", read_with(state, rams[i], ram, 0x8000), nine);
         expect("read, CHR RAM length", read_with(state, ram, rams[i], 0x8000), nine);
@@ -325,6 +389,7 @@ static void check_wrong_lengths(void) {
         expect("write, 9 before 10", write_with(states[i], ram, rams[i], 0, 1), nine);
         expect("load, 9 before 10", load_with(2, states[i], rams[i], ram), nine);
     }
+    for (i = 0; i <= BIEKKARUL_DIGITS; i++) expect("digits untouched", numbers[i], NO_NUMBER);
     expect_untouched("refused lengths");
     expect("the board is still served", read_at(0x8000), data_at(0));
 }
@@ -425,9 +490,11 @@ static void check_p7_and_p8(void) {
     for (i = 0; i < 5; i++) write_at(0xE000, i == 0);
     expect("P8, PRG 1 before", (unsigned)get(now.state, PRG1), 1);
     for (i = 0; i < 4; i++) expect("P8, four bits", write_at(0xE000, 1), 0);
-    expect("P8, serial of four bits", (unsigned)get(now.state, SERIAL), 15 + 15);
+    expect("P8, count of four bits", (unsigned)get(now.state, SERIAL_COUNT), 4);
+    expect("P8, value of four bits", (unsigned)get(now.state, SERIAL_VALUE), 0x1E);
     expect("P8, reset", write_at(0xE000, 0x80), 0);
-    expect("P8, serial after the reset", (unsigned)get(now.state, SERIAL), 0);
+    expect("P8, count after the reset", (unsigned)get(now.state, SERIAL_COUNT), 0);
+    expect("P8, value after the reset", (unsigned)get(now.state, SERIAL_VALUE), 0);
     for (i = 0; i < 4; i++) write_at(0xE000, 0);
     expect("P8, no load yet", (unsigned)get(now.state, PRG1), 1);
     write_at(0xE000, 0);

@@ -1,3 +1,4 @@
+pub mod Registers
 pub mod Start
 pub mod Range
 pub mod Read

@@ -4,48 +4,38 @@ use mathlib.Core.Bool.{Bool, true, cond, _&&_}
 use lib.Dec.{eqb}
 use Rattle.common.specs.declared.Mode.{Mode}
 use Rattle.common.specs.declared.Mode.the-variants.{House, Board as OnBoard}
-use Rattle.cartridge.specs.Answers.{same}
+use Rattle.cartridge.specs.Answers.{same, isMapper}
 use Rattle.cartridge.specs.Load.{couldLoad, isHeaders}
+use Rattle.cartridge.specs.declared.Cartridge.{Cartridge}
+use Rattle.cartridge.specs.declared.Mirroring.{Mirroring}
 use Rattle.cartridge.specs.declared.Refusal.the-variants.{RamNot8K, StateOutOfRange}
 use Rattle.cartridge.specs.declared.MapperType.{MapperType}
-use Rattle.cartridge.specs.declared.MapperType.the-variants.{Nrom, Mmc1, Uxrom, Cnrom, Mmc3}
-use Rattle.uxrom.specs.Uxrom as uxrom
-use Rattle.cnrom.specs.Cnrom as cnrom
-use Rattle.mmc1.specs.Range as mmc1
-use Rattle.mmc3.specs.Range as mmc3
+use Rattle.cartridge.specs.declared.MapperType.the-variants.{Mmc1, Mmc3}
 use Rattle.places.specs.declared.Place.{Place}
 use Rattle.places.specs.declared.Place.the-variants.{Refused}
+use Rattle.boards.specs.Registers.{fits}
 use Rattle.boards.specs.declared.Board.{Board}
 
--- the registers of the mapper in their ranges; "A field that the board doesn't use holds its start value"
-unfoldable pub registersIn : MapperType → Board → Bool
-registersIn Nrom b = uxrom.isStart (b .uxrom) && cnrom.isStart (b .cnrom) && mmc1.isUnused (b .mmc1) && mmc3.isStart (b .mmc3)
-registersIn Mmc1 b = uxrom.isStart (b .uxrom) && cnrom.isStart (b .cnrom) && mmc1.fits (b .mmc1) && mmc3.isStart (b .mmc3)
-registersIn Uxrom b = cnrom.isStart (b .cnrom) && mmc1.isUnused (b .mmc1) && mmc3.isStart (b .mmc3)
-registersIn Cnrom b = uxrom.isStart (b .uxrom) && cnrom.fits (b .cnrom) && mmc1.isUnused (b .mmc1) && mmc3.isStart (b .mmc3)
-registersIn Mmc3 b = uxrom.isStart (b .uxrom) && cnrom.isStart (b .cnrom) && mmc1.isUnused (b .mmc1) && mmc3.fits (b .mmc3)
+-- "in board mode: any of the four on MMC1, horizontal or vertical on MMC3"
+unfoldable pub turnedFit : MapperType → Bool → Bool → Bool
+turnedFit k same headers = cond (isMapper k Mmc1) true (cond (isMapper k Mmc3) headers same)
 
--- of the mapper that the cartridge names
-unfoldable pub registersFit : Board → Bool
-registersFit b = registersIn (b .cart .mapper) b
-
--- "Current mirroring equals the header's, except in board mode: any of the four on MMC1, horizontal or vertical on MMC3"
+-- "Current mirroring equals the header's, except in board mode"
 unfoldable pub screensFit : Mode → MapperType → Bool → Bool → Bool
-screensFit House m same headers = same
-screensFit OnBoard Mmc1 same headers = true
-screensFit OnBoard Mmc3 same headers = headers
-screensFit OnBoard Nrom same headers = same
-screensFit OnBoard Uxrom same headers = same
-screensFit OnBoard Cnrom same headers = same
+screensFit House k same headers = same
+screensFit OnBoard k same headers = turnedFit k same headers
 
--- that sentence, of a board
+-- that sentence, of a cartridge and the current mirroring
+abbrev pub screensKept : Cartridge → Mirroring → Bool
+screensKept c now = screensFit (c .mode) (c .mapper) (same now (c .mirroring)) (isHeaders now)
+
+-- and of a board
 unfoldable pub mirroringFits : Board → Bool
-mirroringFits b =
-    screensFit (b .cart .mode) (b .cart .mapper) (same (b .mirroring) (b .cart .mirroring)) (isHeaders (b .mirroring))
+mirroringFits b = screensKept (b .cart) (b .mirroring)
 
 -- refusal 10: "a state field is out of its range"
 unfoldable pub inRange : Board → Bool
-inRange b = couldLoad (b .cart) && registersFit b && mirroringFits b
+inRange b = couldLoad (b .cart) && fits (b .cart .mapper) (b .registers) && mirroringFits b
 
 -- refusal 10: "or (read, write) the image length is not the one loaded"
 unfoldable pub isLoaded : Board → ℕ → Bool

@@ -10,37 +10,16 @@ use Rattle.cartridge.specs.Header.{headerOf}
 use Rattle.cartridge.specs.Load.{verdict, cartridgeOf, loadedAs, ramAfter}
 use Rattle.cartridge.specs.declared.Cartridge.{Cartridge}
 use Rattle.cartridge.specs.declared.Mirroring.the-variants.{Horizontal}
-use Rattle.cartridge.specs.declared.MapperType.{MapperType}
-use Rattle.cartridge.specs.declared.MapperType.the-variants.{Nrom, Mmc1, Uxrom, Cnrom, Mmc3}
+use Rattle.cartridge.specs.declared.MapperType.the-variants.{Nrom}
 use Rattle.cartridge.specs.declared.Loaded as Cart
-use Rattle.uxrom.specs.Uxrom as uxrom
-use Rattle.cnrom.specs.Cnrom as cnrom
-use Rattle.mmc1.specs.Range as mmc1
-use Rattle.mmc1.specs.declared.Mmc1 as mmc1-type
-use Rattle.mmc3.specs.Range as mmc3
+use Rattle.boards.specs.Registers.{start}
 use Rattle.boards.specs.declared.Board.{Board}
 use Rattle.boards.specs.declared.Loaded.{Loaded}
 use Rattle.boards.specs.declared.LoadAnswer.the-variants.{Accepted, Refused}
 
--- PRG mode 3 is MMC1's start value only
-unfoldable pub mmc1Start : MapperType → mmc1-type.Mmc1
-mmc1Start Mmc1 = mmc1.start
-mmc1Start Nrom = mmc1.unused
-mmc1Start Uxrom = mmc1.unused
-mmc1Start Cnrom = mmc1.unused
-mmc1Start Mmc3 = mmc1.unused
-
--- "Registers start at 0 except as said"; "the current mirroring .. starts as the header's"
+-- the registers of its mapper at their start; "the current mirroring .. starts as the header's"
 unfoldable pub startOf : Cartridge → Board
-startOf c =
-    record {
-      cart = c;
-      mirroring = c .mirroring;
-      uxrom = uxrom.start;
-      cnrom = cnrom.start;
-      mmc1 = mmc1Start (c .mapper);
-      mmc3 = mmc3.start;
-    }
+startOf c = record { cart = c; mirroring = c .mirroring; registers = start (c .mapper) }
 
 -- what stands beside the number of a refused load: a board without an image
 unfoldable pub nothing : Board

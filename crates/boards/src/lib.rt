@@ -2,11 +2,12 @@
 // Ported from potatis nes/src/mappers/mod.rs, which chooses the board.
 ghost use mathlib.Core.Path.{_≡_};
 ghost use Rattle.places.specs.Places.{byteOf};
-ghost use Rattle.boards.specs.Start.{mmc1Start, startOf, nothing, loadedBoard, LoadOwes};
-ghost use Rattle.boards.specs.Range.{registersFit, screensFit, mirroringFits, inRange, isLoaded, ramsFit, guarded};
-ghost use Rattle.boards.specs.Read.{readPlace, read};
-ghost use Rattle.boards.specs.Write.{writePlace, quiet, against, nextMirroring, noticeUnless, notice, withMirroring, turned, uxromWritten, cnromWritten, mmc1Written, mmc3Written, moved, writtenAs, WriteOwes};
-ghost use Rattle.boards.specs.Clock.{yesNo, mmc3Ticked, unmoved, ticked, clock};
+ghost use Rattle.boards.specs.Registers.{withUxrom, withCnrom, withMmc1, withMmc3, mmc1Start, start, partFits, fits, asking, moved, ticked};
+ghost use Rattle.boards.specs.Start.{startOf, nothing, loadedBoard, LoadOwes};
+ghost use Rattle.boards.specs.Range.{turnedFit, screensFit, screensKept, inRange, isLoaded, ramsFit, guarded};
+ghost use Rattle.boards.specs.Read.{readPlace, readIf, read};
+ghost use Rattle.boards.specs.Write.{writePlace, against, nextMirroring, noticeUnless, notice, turned, acceptedWrite, writtenAs, WritesIf, WriteOwes};
+ghost use Rattle.boards.specs.Clock.{yesNo, acceptedClock, clockIf, clock};
 use cartridge::Cartridge;
 use cartridge::MapperType;
 use cartridge::Mirroring;
@@ -20,15 +21,31 @@ use places::Place;
 use places::ReadAnswer;
 use uxrom::Uxrom;
 
-// One record serves all boards: what a board doesn't use holds its start value.
-pub struct Board {
-    pub cart: Cartridge,
-    // The current one. In house mode it stays the header's.
-    pub mirroring: Mirroring,
+// One record serves all boards, with a part for each: a part that the board doesn't use holds its start value.
+pub struct Registers {
     pub uxrom: Uxrom,
     pub cnrom: Cnrom,
     pub mmc1: Mmc1,
     pub mmc3: Mmc3,
+}
+
+// What a write leaves of the registers, and what it asks of the screens.
+pub struct Moved {
+    pub registers: Registers,
+    pub mirrors: Mirrors,
+}
+
+// What a clock leaves of them, and whether its answer is yes.
+pub struct Ticked {
+    pub registers: Registers,
+    pub yes: bool,
+}
+
+pub struct Board {
+    pub cart: Cartridge,
+    // The current one. In house mode it stays the header's.
+    pub mirroring: Mirroring,
+    pub registers: Registers,
 }
 
 pub enum LoadAnswer {
@@ -66,12 +83,124 @@ pub struct Clocked {
 fn mmc1_start(mapper: MapperType) -> Mmc1
     ensures { λ r. ⌜ r ≡ mmc1Start mapper ⌝ }
 {
-    match mapper {
-        MapperType::Mmc1 => Mmc1::new(),
-        MapperType::Nrom => Mmc1::unused(),
-        MapperType::Uxrom => Mmc1::unused(),
-        MapperType::Cnrom => Mmc1::unused(),
-        MapperType::Mmc3 => Mmc1::unused(),
+    if mapper.is(MapperType::Mmc1) {
+        Mmc1::new()
+    } else {
+        Mmc1::unused()
+    }
+}
+
+fn part_fits(mapper: MapperType, owner: MapperType, in_range: bool, at_start: bool) -> bool
+    ensures { λ r. ⌜ r ≡ partFits mapper owner «in_range» «at_start» ⌝ }
+{
+    if mapper.is(owner) { in_range } else { at_start }
+}
+
+impl Registers {
+    pub fn new(mapper: MapperType) -> Self
+        ensures { λ r. ⌜ r ≡ start mapper ⌝ }
+    {
+        Registers {
+            uxrom: Uxrom::new(),
+            cnrom: Cnrom::new(),
+            mmc1: mmc1_start(mapper),
+            mmc3: Mmc3::new(),
+        }
+    }
+
+    pub fn with_uxrom(mut self, uxrom: Uxrom) -> Self
+        ensures { λ r. ⌜ r ≡ withUxrom self uxrom ⌝ }
+    {
+        self.uxrom = uxrom;
+        self
+    }
+
+    pub fn with_cnrom(mut self, cnrom: Cnrom) -> Self
+        ensures { λ r. ⌜ r ≡ withCnrom self cnrom ⌝ }
+    {
+        self.cnrom = cnrom;
+        self
+    }
+
+    pub fn with_mmc1(mut self, mmc1: Mmc1) -> Self
+        ensures { λ r. ⌜ r ≡ withMmc1 self mmc1 ⌝ }
+    {
+        self.mmc1 = mmc1;
+        self
+    }
+
+    pub fn with_mmc3(mut self, mmc3: Mmc3) -> Self
+        ensures { λ r. ⌜ r ≡ withMmc3 self mmc3 ⌝ }
+    {
+        self.mmc3 = mmc3;
+        self
+    }
+
+    // Each part is in its range where it is this board's, else at its start.
+    pub fn fits(self, mapper: MapperType) -> bool
+        ensures { λ r. ⌜ r ≡ fits mapper self ⌝ }
+    {
+        let uxrom = self.uxrom;
+        let cnrom = self.cnrom;
+        let mmc1 = self.mmc1;
+        let mmc3 = self.mmc3;
+        part_fits(mapper, MapperType::Uxrom, true, uxrom.is_start())
+            & part_fits(mapper, MapperType::Cnrom, cnrom.fits(), cnrom.is_start())
+            & part_fits(mapper, MapperType::Mmc1, mmc1.fits(), mmc1.is_unused())
+            & part_fits(mapper, MapperType::Mmc3, mmc3.fits(), mmc3.is_start())
+    }
+
+    fn asking(self, mirrors: Mirrors) -> Moved
+        ensures { λ r. ⌜ r ≡ asking self mirrors ⌝ }
+    {
+        Moved {
+            registers: self,
+            mirrors,
+        }
+    }
+
+    pub fn moved(self, mapper: MapperType, mode: Mode, value: u8, address: u16) -> Moved
+        ensures { λ r. ⌜ r ≡ moved mapper mode self value address ⌝ }
+    {
+        let uxrom = self.uxrom;
+        let cnrom = self.cnrom;
+        let mmc1 = self.mmc1;
+        let mmc3 = self.mmc3;
+        match mapper {
+            MapperType::Nrom => self.asking(Mirrors::AsBefore),
+            MapperType::Mmc1 => {
+                let wrote = mmc1.write8(mode, value, address);
+                let mirrors = wrote.mirrors;
+                self.with_mmc1(wrote.mmc1).asking(mirrors)
+            }
+            MapperType::Uxrom => self.with_uxrom(uxrom.write8(value, address))
+                .asking(Mirrors::AsBefore),
+            MapperType::Cnrom => self.with_cnrom(cnrom.write8(value, address))
+                .asking(Mirrors::AsBefore),
+            MapperType::Mmc3 => {
+                let wrote = mmc3.write8(value, address);
+                let mirrors = wrote.mirrors;
+                self.with_mmc3(wrote.mmc3).asking(mirrors)
+            }
+        }
+    }
+
+    pub fn ticked(self, mapper: MapperType, mode: Mode) -> Ticked
+        ensures { λ r. ⌜ r ≡ ticked mapper mode self ⌝ }
+    {
+        let mmc3 = self.mmc3;
+        if mapper.is(MapperType::Mmc3) {
+            let clocked = mmc3.clock(mode);
+            Ticked {
+                registers: self.with_mmc3(clocked.mmc3),
+                yes: clocked.answer,
+            }
+        } else {
+            Ticked {
+                registers: self,
+                yes: false,
+            }
+        }
     }
 }
 
@@ -84,15 +213,12 @@ fn for_cart(cart: Cartridge) -> Board
     Board {
         cart,
         mirroring,
-        uxrom: Uxrom::new(),
-        cnrom: Cnrom::new(),
-        mmc1: mmc1_start(mapper),
-        mmc3: Mmc3::new(),
+        registers: Registers::new(mapper),
     }
 }
 
 // What stands beside a refused load. Every call refuses it.
-fn no_board() -> Board
+pub fn no_board() -> Board
     ensures { λ r. ⌜ r ≡ nothing ⌝ }
 {
     for_cart(Cartridge {
@@ -190,67 +316,48 @@ fn yes_no(yes: bool) -> ClockAnswer
     }
 }
 
+fn turned_fit(mapper: MapperType, same: bool, headers: bool) -> bool
+    ensures { λ r. ⌜ r ≡ turnedFit mapper same headers ⌝ }
+{
+    if mapper.is(MapperType::Mmc1) {
+        true
+    } else if mapper.is(MapperType::Mmc3) {
+        headers
+    } else {
+        same
+    }
+}
+
 // House mode keeps the header's; on the real board MMC1 chooses among four and MMC3 between two.
 fn screens_fit(mode: Mode, mapper: MapperType, same: bool, headers: bool) -> bool
     ensures { λ r. ⌜ r ≡ screensFit mode mapper same headers ⌝ }
 {
     match mode {
         Mode::House => same,
-        Mode::Board => match mapper {
-            MapperType::Mmc1 => true,
-            MapperType::Mmc3 => headers,
-            MapperType::Nrom => same,
-            MapperType::Uxrom => same,
-            MapperType::Cnrom => same,
-        },
+        Mode::Board => turned_fit(mapper, same, headers),
     }
 }
 
+// What a cartridge's board may have as its current mirroring.
+pub fn screens_kept(cart: Cartridge, now: Mirroring) -> bool
+    ensures { λ r. ⌜ r ≡ screensKept cart now ⌝ }
+{
+    let header = cart.mirroring;
+    let mode = cart.mode;
+    let mapper = cart.mapper;
+    screens_fit(mode, mapper, now.same(header), now.is_headers())
+}
+
 impl Board {
-    fn registers_fit(self) -> bool
-        ensures { λ r. ⌜ r ≡ registersFit self ⌝ }
-    {
-        let cart = self.cart;
-        let mapper = cart.mapper;
-        let uxrom = self.uxrom;
-        let cnrom = self.cnrom;
-        let mmc1 = self.mmc1;
-        let mmc3 = self.mmc3;
-        match mapper {
-            MapperType::Nrom => uxrom.is_start()
-                & cnrom.is_start()
-                & mmc1.is_unused()
-                & mmc3.is_start(),
-            MapperType::Mmc1 => uxrom.is_start() & cnrom.is_start() & mmc1.fits() & mmc3.is_start(),
-            MapperType::Uxrom => cnrom.is_start() & mmc1.is_unused() & mmc3.is_start(),
-            MapperType::Cnrom => uxrom.is_start()
-                & cnrom.fits()
-                & mmc1.is_unused()
-                & mmc3.is_start(),
-            MapperType::Mmc3 => uxrom.is_start()
-                & cnrom.is_start()
-                & mmc1.is_unused()
-                & mmc3.fits(),
-        }
-    }
-
-    fn mirroring_fits(self) -> bool
-        ensures { λ r. ⌜ r ≡ mirroringFits self ⌝ }
-    {
-        let cart = self.cart;
-        let header = cart.mirroring;
-        let now = self.mirroring;
-        let mode = cart.mode;
-        let mapper = cart.mapper;
-        screens_fit(mode, mapper, now.same(header), now.is_headers())
-    }
-
     // Refusal 10 is given where this fails.
     pub fn in_range(self) -> bool
         ensures { λ r. ⌜ r ≡ inRange self ⌝ }
     {
         let cart = self.cart;
-        cart.could_load() & self.registers_fit() & self.mirroring_fits()
+        let mapper = cart.mapper;
+        let registers = self.registers;
+        let now = self.mirroring;
+        cart.could_load() & registers.fits(mapper) & screens_kept(cart, now)
     }
 
     fn is_loaded(self, length: usize) -> bool
@@ -265,10 +372,11 @@ impl Board {
     {
         let cart = self.cart;
         let mapper = cart.mapper;
-        let uxrom = self.uxrom;
-        let cnrom = self.cnrom;
-        let mmc1 = self.mmc1;
-        let mmc3 = self.mmc3;
+        let registers = self.registers;
+        let uxrom = registers.uxrom;
+        let cnrom = registers.cnrom;
+        let mmc1 = registers.mmc1;
+        let mmc3 = registers.mmc3;
         match mapper {
             MapperType::Nrom => nrom::read_place(cart, address),
             MapperType::Mmc1 => mmc1.read_place(cart, address),
@@ -283,10 +391,11 @@ impl Board {
     {
         let cart = self.cart;
         let mapper = cart.mapper;
-        let uxrom = self.uxrom;
-        let cnrom = self.cnrom;
-        let mmc1 = self.mmc1;
-        let mmc3 = self.mmc3;
+        let registers = self.registers;
+        let uxrom = registers.uxrom;
+        let cnrom = registers.cnrom;
+        let mmc1 = registers.mmc1;
+        let mmc3 = registers.mmc3;
         match mapper {
             MapperType::Nrom => nrom::write_place(cart, address),
             MapperType::Mmc1 => mmc1.write_place(cart, address),
@@ -303,23 +412,12 @@ impl Board {
     {
         let cart = self.cart;
         let mapper = cart.mapper;
-        let mmc1 = self.mmc1;
-        match mapper {
-            MapperType::Mmc1 => mmc1.read8(cart, image, prg, chr, address),
-            MapperType::Nrom => places::byte_of(cart, place, image, prg, chr),
-            MapperType::Uxrom => places::byte_of(cart, place, image, prg, chr),
-            MapperType::Cnrom => places::byte_of(cart, place, image, prg, chr),
-            MapperType::Mmc3 => places::byte_of(cart, place, image, prg, chr),
+        let registers = self.registers;
+        let mmc1 = registers.mmc1;
+        if mapper.is(MapperType::Mmc1) {
+            return mmc1.read8(cart, image, prg, chr, address);
         }
-    }
-
-    pub fn quiet(self) -> Written
-        ensures { λ r. ⌜ r ≡ quiet self ⌝ }
-    {
-        Written {
-            board: self,
-            answer: WriteAnswer::Quiet,
-        }
+        places::byte_of(cart, place, image, prg, chr)
     }
 
     // What a notice compares with: the header's in house mode, the current one in board mode.
@@ -334,94 +432,32 @@ impl Board {
         }
     }
 
-    fn with_mirroring(self, mirroring: Mirroring) -> Board
-        ensures { λ r. ⌜ r ≡ withMirroring self mirroring ⌝ }
-    {
-        let cart = self.cart;
-        let uxrom = self.uxrom;
-        let cnrom = self.cnrom;
-        let mmc1 = self.mmc1;
-        let mmc3 = self.mmc3;
-        Board {
-            cart,
-            mirroring,
-            uxrom,
-            cnrom,
-            mmc1,
-            mmc3,
-        }
-    }
-
-    fn turned(self, mirrors: Mirrors) -> Written
-        ensures { λ r. ⌜ r ≡ turned self mirrors ⌝ }
+    fn turned(self, moved: Moved) -> Written
+        ensures { λ r. ⌜ r ≡ turned self moved ⌝ }
     {
         let cart = self.cart;
         let mode = cart.mode;
         let now = self.mirroring;
+        let mirrors = moved.mirrors;
+        let registers = moved.registers;
         Written {
-            board: self.with_mirroring(next_mirroring(mode, now, mirrors)),
+            board: Board {
+                cart,
+                mirroring: next_mirroring(mode, now, mirrors),
+                registers,
+            },
             answer: notice(self.against(), mirrors),
         }
     }
 
-    pub fn uxrom_written(self, value: u8, address: u16) -> Written
-        ensures { λ r. ⌜ r ≡ uxromWritten self value address ⌝ }
-    {
-        let uxrom = self.uxrom;
-        let mut next = self;
-        let moved = uxrom.write8(value, address);
-        next.uxrom = moved;
-        next.quiet()
-    }
-
-    pub fn cnrom_written(self, value: u8, address: u16) -> Written
-        ensures { λ r. ⌜ r ≡ cnromWritten self value address ⌝ }
-    {
-        let cnrom = self.cnrom;
-        let mut next = self;
-        let moved = cnrom.write8(value, address);
-        next.cnrom = moved;
-        next.quiet()
-    }
-
-    pub fn mmc1_written(self, value: u8, address: u16) -> Written
-        ensures { λ r. ⌜ r ≡ mmc1Written self value address ⌝ }
-    {
-        let cart = self.cart;
-        let mode = cart.mode;
-        let mmc1 = self.mmc1;
-        let wrote = mmc1.write8(mode, value, address);
-        let mut next = self;
-        let moved = wrote.mmc1;
-        next.mmc1 = moved;
-        let mirrors = wrote.mirrors;
-        next.turned(mirrors)
-    }
-
-    pub fn mmc3_written(self, value: u8, address: u16) -> Written
-        ensures { λ r. ⌜ r ≡ mmc3Written self value address ⌝ }
-    {
-        let mmc3 = self.mmc3;
-        let wrote = mmc3.write8(value, address);
-        let mut next = self;
-        let moved = wrote.mmc3;
-        next.mmc3 = moved;
-        let mirrors = wrote.mirrors;
-        next.turned(mirrors)
-    }
-
-    fn moved(self, value: u8, address: u16) -> Written
-        ensures { λ r. ⌜ r ≡ moved self value address ⌝ }
+    fn accepted_write(self, value: u8, address: u16) -> Written
+        ensures { λ r. ⌜ r ≡ acceptedWrite self value address ⌝ }
     {
         let cart = self.cart;
         let mapper = cart.mapper;
-        match mapper {
-            MapperType::Nrom => self.quiet(),
-            MapperType::Mmc1 => self.mmc1_written(value, address),
-            MapperType::Uxrom => self.uxrom_written(value, address),
-            MapperType::Cnrom => self.cnrom_written(value, address),
-            MapperType::Mmc3 => self.mmc3_written(value, address),
-        }
+        let mode = cart.mode;
+        let registers = self.registers;
+        self.turned(registers.moved(mapper, mode, value, address))
     }
 
     // A refused write hands the board back as it came.
@@ -433,70 +469,85 @@ impl Board {
                 board: self,
                 answer: WriteAnswer::Refused(why),
             },
-            Place::Prg(_) => self.moved(value, address),
-            Place::Chr(_) => self.moved(value, address),
-            Place::PrgRam(_) => self.moved(value, address),
-            Place::ChrRam(_) => self.moved(value, address),
-            Place::Zero => self.moved(value, address),
+            _ => self.accepted_write(value, address),
         }
     }
 
-    pub fn mmc3_ticked(self) -> Clocked
-        ensures { λ r. ⌜ r ≡ mmc3Ticked self ⌝ }
-    {
-        let cart = self.cart;
-        let mode = cart.mode;
-        let mmc3 = self.mmc3;
-        let ticked = mmc3.clock(mode);
-        let mut next = self;
-        let moved = ticked.mmc3;
-        next.mmc3 = moved;
-        Clocked {
-            board: next,
-            answer: yes_no(ticked.answer),
-        }
-    }
-
-    pub fn unmoved(self, answer: ClockAnswer) -> Clocked
-        ensures { λ r. ⌜ r ≡ unmoved self answer ⌝ }
-    {
-        Clocked {
-            board: self,
-            answer,
-        }
-    }
-
-    fn ticked(self) -> Clocked
-        ensures { λ r. ⌜ r ≡ ticked self ⌝ }
+    fn accepted_clock(self) -> Clocked
+        ensures { λ r. ⌜ r ≡ acceptedClock self ⌝ }
     {
         let cart = self.cart;
         let mapper = cart.mapper;
-        match mapper {
-            MapperType::Mmc3 => self.mmc3_ticked(),
-            MapperType::Nrom => self.unmoved(ClockAnswer::No),
-            MapperType::Mmc1 => self.unmoved(ClockAnswer::No),
-            MapperType::Uxrom => self.unmoved(ClockAnswer::No),
-            MapperType::Cnrom => self.unmoved(ClockAnswer::No),
+        let mode = cart.mode;
+        let registers = self.registers;
+        let ticked = registers.ticked(mapper, mode);
+        let mut next = self;
+        let moved = ticked.registers;
+        next.registers = moved;
+        Clocked {
+            board: next,
+            answer: yes_no(ticked.yes),
         }
     }
 
+    // The three calls of a board that has been judged: `fits` is whether it may be served.
+    pub fn clock_if(self, fits: bool) -> Clocked
+        ensures { λ r. ⌜ r ≡ clockIf fits self ⌝ }
+    {
+        if fits {
+            return self.accepted_clock();
+        }
+        Clocked {
+            board: self,
+            answer: ClockAnswer::Refused(Refusal::StateOutOfRange),
+        }
+    }
+
+    pub fn read_if<'a>(
+        self,
+        fits: bool,
+        image: &'a [u8],
+        prg: &[u8],
+        chr: &'a [u8],
+        address: u16,
+    ) -> ReadAnswer
+        ensures { λ r. ⌜ r ≡ readIf fits self (now (image .entry)) (now (prg .entry)) (now (chr .entry)) address ⌝ }
+    {
+        let place = self.read_place(address);
+        let byte = self.byte(place, image, prg, chr, address);
+        places::answer_at(guarded(rams_fit(prg.len(), chr.len()), fits, place), byte)
+    }
+
+    pub fn write_if(
+        self,
+        fits: bool,
+        prg: &mut [u8],
+        chr: &mut [u8],
+        address: u16,
+        value: u8,
+    ) -> Written
+        ensures { λ r. ⌜ WritesIf fits self (now (prg .entry)) (now (chr .entry)) address value r (now (prg .exit)) (now (chr .exit)) ⌝ }
+    {
+        let place = guarded(
+            rams_fit(prg.len(), chr.len()),
+            fits,
+            self.write_place(address),
+        );
+        places::store(place, prg, chr, value);
+        self.written_as(place, value, address)
+    }
+
+    // The public calls: each judges the state, then serves it.
     pub fn clock(self) -> Clocked
         ensures { λ r. ⌜ r ≡ clock self ⌝ }
     {
-        if self.in_range() {
-            self.ticked()
-        } else {
-            self.unmoved(ClockAnswer::Refused(Refusal::StateOutOfRange))
-        }
+        self.clock_if(self.in_range())
     }
 
     pub fn read<'a>(self, image: &'a [u8], prg: &[u8], chr: &'a [u8], address: u16) -> ReadAnswer
         ensures { λ r. ⌜ r ≡ read self (now (image .entry)) (now (prg .entry)) (now (chr .entry)) address ⌝ }
     {
-        let place = self.read_place(address);
-        let byte = self.byte(place, image, prg, chr, address);
-        let state = self.is_loaded(image.len());
-        places::answer_at(guarded(rams_fit(prg.len(), chr.len()), state, place), byte)
+        self.read_if(self.is_loaded(image.len()), image, prg, chr, address)
     }
 
     pub fn write(
@@ -509,13 +560,6 @@ impl Board {
     ) -> Written
         ensures { λ r. ⌜ WriteOwes self (now (image .entry)) (now (prg .entry)) (now (chr .entry)) address value r (now (prg .exit)) (now (chr .exit)) ⌝ }
     {
-        let state = self.is_loaded(image.len());
-        let place = guarded(
-            rams_fit(prg.len(), chr.len()),
-            state,
-            self.write_place(address),
-        );
-        places::store(place, prg, chr, value);
-        self.written_as(place, value, address)
+        self.write_if(self.is_loaded(image.len()), prg, chr, address, value)
     }
 }

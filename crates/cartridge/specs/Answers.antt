@@ -45,3 +45,7 @@ mapperNumber Mmc1 = 1
 mapperNumber Uxrom = 2
 mapperNumber Cnrom = 3
 mapperNumber Mmc3 = 4
+
+-- whether a mapper is this one
+unfoldable pub isMapper : MapperType → MapperType → Bool
+isMapper k this = eqb (mapperNumber k) (mapperNumber this)

@@ -1,3 +1,4 @@
 pub mod Answers
 pub mod Header
 pub mod Load
+pub mod Steps

@@ -2,9 +2,10 @@
 ghost use mathlib.Core.Path.{_≡_};
 ghost use Prim.Native.Nat.{_+_, _*_};
 ghost use lib.ListN.{length};
-ghost use Rattle.cartridge.specs.Answers.{refusalNumber, mirroringLetter, same, mapperNumber};
+ghost use Rattle.cartridge.specs.Answers.{refusalNumber, mirroringLetter, same, mapperNumber, isMapper};
 ghost use Rattle.cartridge.specs.Header.{isInes, headerOf, headerAnswer, headerRead, totalSize, mapperOf, mirroringOf, isNes2, isSpecial};
 ghost use Rattle.cartridge.specs.Load.{isPower, oddCounts, badPrg, needed, firstOf, verdictOn, verdict, mapperType, cartridgeOf, loadedAs, ramAfter, LoadOwes, prgTotal, hasChrRam, chrTotal, prgRom, chrRom, chrData, lastPrg, couldLoad, isHeaders};
+ghost use Rattle.cartridge.specs.Steps.{hasOneBit, oddBits};
 use common::Mode;
 use common::kilobytes;
 use memory::byte_at;
@@ -184,21 +185,29 @@ impl MapperType {
             MapperType::Mmc3 => 4,
         }
     }
-}
 
-fn mapper_type(number: u8) -> MapperType
-    ensures { λ r. ⌜ r ≡ mapperType number ⌝ }
-{
-    if number == 0 {
-        MapperType::Nrom
-    } else if number == 1 {
-        MapperType::Mmc1
-    } else if number == 2 {
-        MapperType::Uxrom
-    } else if number == 3 {
-        MapperType::Cnrom
-    } else {
-        MapperType::Mmc3
+    // For what sets one board apart from all others.
+    pub fn is(self, other: MapperType) -> bool
+        ensures { λ r. ⌜ r ≡ isMapper self other ⌝ }
+    {
+        self.number() == other.number()
+    }
+
+    // The board of a number up to 4; the load refuses the others.
+    pub fn numbered(number: u8) -> MapperType
+        ensures { λ r. ⌜ r ≡ mapperType number ⌝ }
+    {
+        if number == 0 {
+            MapperType::Nrom
+        } else if number == 1 {
+            MapperType::Mmc1
+        } else if number == 2 {
+            MapperType::Uxrom
+        } else if number == 3 {
+            MapperType::Cnrom
+        } else {
+            MapperType::Mmc3
+        }
     }
 }
 
@@ -330,7 +339,7 @@ impl Cartridge {
         let mapper = self.mapper;
         let mode = self.mode;
         let mirroring = self.mirroring;
-        let counts = !bad_prg(mapper.number(), self.prg) & !odd_counts(mode, self.prg, self.chr);
+        let counts = !bad_prg(mapper.number(), self.prg) & !odd_bits(mode, self.prg, self.chr);
         let size = (self.prg < 256)
             & (self.chr < 256)
             & ((needed(self.prg, self.chr) as usize) <= self.length);
@@ -361,6 +370,23 @@ fn odd_counts(mode: Mode, prg: u16, chr: u16) -> bool
     match mode {
         Mode::House => false,
         Mode::Board => !is_power_of_two(prg) | ((chr != 0) & !is_power_of_two(chr)),
+    }
+}
+
+fn has_one_bit(n: u16) -> bool
+    ensures { λ r. ⌜ r ≡ hasOneBit n ⌝ }
+{
+    u16::count_ones(n) == 1
+}
+
+// The same of counts up to 255, without the list, for a range that every call judges: a power of two
+// has one bit.
+fn odd_bits(mode: Mode, prg: u16, chr: u16) -> bool
+    ensures { λ r. ⌜ r ≡ oddBits mode prg chr ⌝ }
+{
+    match mode {
+        Mode::House => false,
+        Mode::Board => !has_one_bit(prg) | ((chr != 0) & !has_one_bit(chr)),
     }
 }
 
@@ -443,7 +469,7 @@ fn cartridge_of(h: Header, mode: Mode, len: usize) -> Cartridge
 {
     Cartridge {
         mode,
-        mapper: mapper_type(h.mapper()),
+        mapper: MapperType::numbered(h.mapper()),
         nes2: h.is_nes2(),
         mirroring: h.mirroring(),
         prg: h.prg as u16,

@@ -1,7 +1,7 @@
 -- The two modes, the sizes and bit 7.
 use Prim.Native.Nat.{ℕ}
-use mathlib.Core.Bool.{Bool}
-use lib.Dec.{leb}
+use mathlib.Core.Bool.{Bool, cond}
+use lib.Dec.{leb, eqb}
 use Rattle.common.specs.declared.Mode.{Mode}
 use Rattle.common.specs.declared.Mode.the-variants.{House, Board}
 
@@ -9,6 +9,10 @@ use Rattle.common.specs.declared.Mode.the-variants.{House, Board}
 abbrev pub modeNumber : Mode → ℕ
 modeNumber House = 0
 modeNumber Board = 1
+
+-- the mode of such a number
+unfoldable pub modeOf : ℕ → Mode
+modeOf n = cond (eqb n 0) House Board
 
 -- "The KB constants missing from our copy of the text are 1,024, 4,096 and 8,192"; the fourth is the PRG block's 16,384
 abbrev pub KB1 : ℕ

@@ -1,7 +1,7 @@
 // What every crate above uses: the two modes, the sizes, the test of bit 7.
 // Ported from potatis common/src/lib.rs.
 ghost use mathlib.Core.Path.{_≡_};
-ghost use Rattle.common.specs.Common.{isSigned, modeNumber};
+ghost use Rattle.common.specs.Common.{isSigned, modeNumber, modeOf};
 
 // A title gets one of the two at release and never leaves it.
 pub enum Mode {
@@ -19,6 +19,16 @@ impl Mode {
         match self {
             Mode::House => 0,
             Mode::Board => 1,
+        }
+    }
+
+    pub fn numbered(number: u8) -> Mode
+        ensures { λ r. ⌜ r ≡ modeOf number ⌝ }
+    {
+        if number == 0 {
+            Mode::House
+        } else {
+            Mode::Board
         }
     }
 }

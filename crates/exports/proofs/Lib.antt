@@ -1,5 +1,6 @@
-pub mod Put
-pub mod Joined
+mod Put
 pub mod RoundTrip
 pub mod AsBoards
 pub mod Unique
+mod Clocks
+mod BoardRead

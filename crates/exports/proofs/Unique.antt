@@ -1,5 +1,5 @@
--- Each exported promise has one answer: two numbers, states, fields and RAMs that both meet it are equal. The promises are the contracts as they are generated
--- from the source. Assumes nothing.
+-- Each exported promise has one answer: two numbers, states, fields, digits and RAMs that both meet it are equal. The promises are the contracts as they are
+-- generated from the source. Assumes nothing.
 use mathlib.Core.Path.{_≡_, _∙_, sym}
 use denote.Ref.{now}
 use Rattle.exports.proofs.biekkarul_header.Reads as header
@@ -7,6 +7,7 @@ use Rattle.exports.proofs.biekkarul_load.Reads as load
 use Rattle.exports.proofs.biekkarul_read.Reads as read
 use Rattle.exports.proofs.biekkarul_write.Reads as write
 use Rattle.exports.proofs.biekkarul_clock.Reads as clock
+use Rattle.exports.proofs.biekkarul_digits.Reads as digits
 
 module _ (κs : _) (a : _) (r r′ : _) (s s′ : _) (p : header.Post κs a r s) (q : header.Post κs a r′ s′) where
   pub header-reply : r ≡ r′
@@ -51,3 +52,10 @@ module _ (κs : _) (a : _) (r r′ : _) (s s′ : _) (p : clock.Post κs a r s) 
 
   pub clock-state : now (s .0) ≡ now (s′ .0)
   clock-state = p .state ∙ rw (clock-reply) (sym (q .state))
+
+module _ (κs : _) (a : _) (r r′ : _) (s s′ : _) (p : digits.Post κs a r s) (q : digits.Post κs a r′ s′) where
+  pub digits-reply : r ≡ r′
+  digits-reply = p .reply ∙ sym (q .reply)
+
+  pub digits-shown : now (s .1 .0) ≡ now (s′ .1 .0)
+  digits-shown = p .digits ∙ sym (q .digits)

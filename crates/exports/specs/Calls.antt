@@ -1,75 +1,26 @@
--- What each exported call owes its caller: docs/ABI.md, "Answers and refusals".
+-- What each exported call owes its caller: docs/ABI.md, "Answers and refusals". Load, read, write and clock are the board's own, on the board that the bytes hold.
 use Prim.Native.Nat.{ℕ}
 use mathlib.Core.Path.{_≡_}
 use mathlib.Core.Bool.{Bool, cond, _&&_}
 use mathlib.Core.List.{List}
 use lib.Dec.{ltb, eqb}
 use lib.ListN.{length}
+use Rattle.common.specs.Common.{modeOf}
 use Rattle.cartridge.specs.Header.{headerOf, headerRead}
 use Rattle.cartridge.specs.Load.{verdict, cartridgeOf, loadedAs, ramAfter}
-use Rattle.cartridge.specs.declared.MapperType.{MapperType}
 use Rattle.cartridge.specs.declared.Refusal.the-variants.{RamNot8K, StateOutOfRange}
 use Rattle.cartridge.specs.declared.Verdict as decided
-use Rattle.places.specs.Places.{byteOf, answerAt, storedPrg, storedChr}
+use Rattle.places.specs.Places.{storedPrg, storedChr}
 use Rattle.places.specs.declared.Place.{Place}
 use Rattle.boards.specs.Start.{loadedBoard}
-use Rattle.boards.specs.Range.{isLoaded, ramsFit, guarded}
-use Rattle.boards.specs.Read.{readPlace}
-use Rattle.boards.specs.Write.{writePlace, writtenAs}
-use Rattle.boards.specs.Clock.{ticked, unmoved}
-use Rattle.boards.specs.declared.Board.{Board}
+use Rattle.boards.specs.Range.{ramsFit}
+use Rattle.boards.specs.Read.{readIf}
+use Rattle.boards.specs.Write.{landingIf, writtenAs}
+use Rattle.boards.specs.Clock.{clockIf}
 use Rattle.boards.specs.declared.Loaded.{Loaded}
-use Rattle.boards.specs.declared.Clocked.{Clocked}
-use Rattle.boards.specs.declared.ClockAnswer.the-variants.{Refused as NotClocked}
-use Rattle.states.specs.Words.{modeOf, boardAs, wordsOf}
-use Rattle.states.specs.Kept.{mapperIn, isKept}
-use Rattle.states.specs.declared.Words.{Words}
+use Rattle.states.specs.Words.{wordsOf, digitsOf}
 use Rattle.exports.specs.Numbers.{refused, readNumber, writeNumber, clockNumber, loadNumber, headerNumber, fieldsAfter}
-use Rattle.exports.specs.Bytes.{wordsIn, kept}
-
--- the board that the bytes hold
-abbrev pub boardIn : List ℕ → Board
-boardIn s = boardAs (mapperIn (wordsIn s)) (wordsIn s)
-
--- 10: not where "`state` is not 40 bytes, or no board could have it"
-abbrev pub isState : List ℕ → Bool
-isState s = eqb (length s) 40 && isKept (mapperIn (wordsIn s)) (wordsIn s)
-
--- the words are a board's, and "the image's length" is "the one loaded"
-unfoldable pub isKeptFor : MapperType → Words → ℕ → Bool
-isKeptFor m w n = isKept m w && isLoaded (boardAs m w) n
-
--- where a read lands: "9, 10, then the board's own"
-abbrev pub reading : List ℕ → ℕ → ℕ → ℕ → ℕ → Place
-reading s image prg chr a =
-    guarded (ramsFit prg chr) (eqb (length s) 40 && isKeptFor (mapperIn (wordsIn s)) (wordsIn s) image) (readPlace (boardIn s) a)
-
--- what a read answers
-unfoldable pub readBytes : List ℕ → List ℕ → List ℕ → List ℕ → ℕ → ℕ
-readBytes s image prg chr a =
-    readNumber
-    (answerAt (reading s (length image) (length prg) (length chr) a) (byteOf (boardIn s .cart) (readPlace (boardIn s) a) image prg chr))
-
--- where the byte of a write lands
-abbrev pub writing : List ℕ → ℕ → ℕ → ℕ → ℕ → Place
-writing s image prg chr a =
-    guarded (ramsFit prg chr) (eqb (length s) 40 && isKeptFor (mapperIn (wordsIn s)) (wordsIn s) image) (writePlace (boardIn s) a)
-
--- what a write owes: the answer, the state and both RAMs
-pub record WriteOwes (s image prg chr : List ℕ) (a v r : ℕ) (s′ prg′ chr′ : List ℕ) : Type 0 where
-  pub reply : r ≡ writeNumber (writtenAs (boardIn s) (writing s (length image) (length prg) (length chr) a) v a .answer)
-  pub state : s′ ≡ kept s r (wordsOf (writtenAs (boardIn s) (writing s (length image) (length prg) (length chr) a) v a .board))
-  pub prg-ram : prg′ ≡ storedPrg (writing s (length image) (length prg) (length chr) a) v prg
-  pub chr-ram : chr′ ≡ storedChr (writing s (length image) (length prg) (length chr) a) v chr
-
--- the board after a clock, and its answer; 10 where the bytes are no board's
-abbrev pub clocking : List ℕ → Clocked
-clocking s = cond (isState s) (ticked (boardIn s)) (unmoved (boardIn s) (NotClocked StateOutOfRange))
-
--- what a clock owes: the answer and the state
-pub record ClockOwes (s : List ℕ) (r : ℕ) (s′ : List ℕ) : Type 0 where
-  pub reply : r ≡ clockNumber (clocking s .answer)
-  pub state : s′ ≡ kept s r (wordsOf (clocking s .board))
+use Rattle.exports.specs.Bytes.{wordsIn, boardIn, isState, isStateFor, kept}
 
 -- load: "9, 10 (`state` is not 40 bytes, or `mode` is neither 0 house nor 1 board), 3, 4, 5, 6, 7, 8"
 abbrev pub decision : List ℕ → ℕ → ℕ → ℕ → ℕ → decided.Verdict
@@ -89,6 +40,35 @@ pub record LoadOwes (image : List ℕ) (mode : ℕ) (s prg chr : List ℕ) (r : 
   pub state : s′ ≡ kept s r (wordsOf (loading image mode (length s) (length prg) (length chr) .board))
   pub prg-ram : prg′ ≡ ramAfter (decision image mode (length s) (length prg) (length chr)) prg
   pub chr-ram : chr′ ≡ ramAfter (decision image mode (length s) (length prg) (length chr)) chr
+
+-- what a read answers: the board's own call, "9, 10, then the board's own"
+unfoldable pub readBytes : List ℕ → List ℕ → List ℕ → List ℕ → ℕ → ℕ
+readBytes s image prg chr a = readNumber (readIf (isStateFor s (length image)) (boardIn s) image prg chr a)
+
+-- where the byte of a write lands
+abbrev pub writing : List ℕ → List ℕ → List ℕ → List ℕ → ℕ → Place
+writing s image prg chr a = landingIf (isStateFor s (length image)) (boardIn s) prg chr a
+
+-- what a write owes: the answer, the state and both RAMs
+pub record WriteOwes (s image prg chr : List ℕ) (a v r : ℕ) (s′ prg′ chr′ : List ℕ) : Type 0 where
+  pub reply : r ≡ writeNumber (writtenAs (boardIn s) (writing s image prg chr a) v a .answer)
+  pub state : s′ ≡ kept s r (wordsOf (writtenAs (boardIn s) (writing s image prg chr a) v a .board))
+  pub prg-ram : prg′ ≡ storedPrg (writing s image prg chr a) v prg
+  pub chr-ram : chr′ ≡ storedChr (writing s image prg chr a) v chr
+
+-- what a clock owes: the answer and the state
+pub record ClockOwes (s : List ℕ) (r : ℕ) (s′ : List ℕ) : Type 0 where
+  pub reply : r ≡ clockNumber (clockIf (isState s) (boardIn s) .answer)
+  pub state : s′ ≡ kept s r (wordsOf (clockIf (isState s) (boardIn s) .board))
+
+-- the digits are shown: no 10 is due, since a board could have the state and there is room for 40 numbers
+abbrev pub isShown : List ℕ → List ℕ → Bool
+isShown s d = isState s && eqb (length d) 40
+
+-- what the call that shows the digits owes: the answer, and the forty numbers
+pub record DigitsOwes (s d : List ℕ) (r : ℕ) (d′ : List ℕ) : Type 0 where
+  pub reply : r ≡ cond (isShown s d) 0 (refused StateOutOfRange)
+  pub digits : d′ ≡ cond (isShown s d) (digitsOf (wordsIn s)) d
 
 -- what the header reader owes: the answer and the twelve fields; "10 (`fields` is not 12 bytes), 1, 2"
 pub record HeaderOwes (image f : List ℕ) (r : ℕ) (f′ : List ℕ) : Type 0 where

@@ -1,5 +1,5 @@
 pub mod Numbers
 pub mod Bytes
 pub mod Calls
-pub mod Steps
 pub mod RoundTrip
+pub mod Steps

@@ -3,9 +3,11 @@ use Prim.Native.Nat.{ℕ, _<_}
 use mathlib.Core.Path.{_≡_}
 use mathlib.Core.List.{List}
 use Rattle.memory.specs.Memory.{byte}
+use Rattle.boards.specs.declared.Board.{Board}
 use Rattle.boards.specs.declared.Written.{Written}
 use Rattle.boards.specs.declared.Clocked.{Clocked}
 use Rattle.boards.specs.declared.Loaded.{Loaded}
+use Rattle.states.specs.Kept.{boardDigits}
 use Rattle.states.specs.Words.{wordsOf}
 use Rattle.exports.specs.Numbers.{writeNumber, clockNumber, loadNumber}
 use Rattle.exports.specs.Bytes.{encoded, kept}
@@ -32,3 +34,8 @@ pub record LoadsAs (l : Loaded) (s prg chr : List ℕ) (r : ℕ) (s′ prg′ ch
   pub state : s′ ≡ kept s (loadNumber (l .answer)) (wordsOf (l .board))
   pub prg-ram : prg′ ≡ prg
   pub chr-ram : chr′ ≡ chr
+
+-- the digits as the board's
+pub record ShowsAs (b : Board) (r : ℕ) (d′ : List ℕ) : Type 0 where
+  pub reply : r ≡ 0
+  pub digits : d′ ≡ boardDigits b

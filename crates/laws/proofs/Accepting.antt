@@ -11,7 +11,7 @@ use Rattle.cartridge.specs.declared.Refusal.the-variants.{RamNot8K, StateOutOfR
 use Rattle.places.specs.declared.Place.{Place}
 use Rattle.places.specs.declared.Place.the-variants.{Prg, Chr, PrgRam, ChrRam, Zero, Refused}
 use Rattle.boards.specs.Range.{inRange, isLoaded, ramsFit, guarded}
-use Rattle.boards.specs.Write.{writePlace, moved, writtenAs, landing}
+use Rattle.boards.specs.Write.{writePlace, acceptedWrite, writtenAs, landing}
 use Rattle.boards.specs.Runs.{Lent}
 use Rattle.boards.specs.declared.Board.{Board}
 use Rattle.laws.specs.Loads.{isAccepted, accepts}
@@ -51,7 +51,7 @@ module _ (b d : Board) (cart : b .cart ≡ d .cart) (first : inRange b ≡ true)
       (loaded-alike (length (l .image))) e
 
 -- the board after a write, by whether it is accepted
-pub after-write : (b : Board) (p : Place) (v a : ℕ) → writtenAs b p v a .board ≡ cond (isAccepted p) (moved b v a .board) b
+pub after-write : (b : Board) (p : Place) (v a : ℕ) → writtenAs b p v a .board ≡ cond (isAccepted p) (acceptedWrite b v a .board) b
 unfolding writtenAs isAccepted
 after-write b (Refused why) v a = refl
 after-write b (Prg i) v a = refl

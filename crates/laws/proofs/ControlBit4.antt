@@ -1,53 +1,59 @@
 -- The CHR mode that a call finds is bit 4 of the last control load before it, since no other load moves it. Assumes nothing.
 use Prim.Native.Nat.{ℕ, zero, suc, _/_, _%_, _<_}
-use mathlib.Core.Path.{_≡_, refl, sym, ap, _∙_}
+use mathlib.Core.Path.{_≡_, refl, ap, _∙_}
 use mathlib.Core.List.{List, [], _∷_}
 use native.Mathlib.Nat.{le-of-suc-le-suc}
 use native.Mathlib.Omega.{arith}
+use Rattle.common.specs.declared.Mode.{Mode}
+use Rattle.common.specs.declared.Mode.the-variants.{House, Board as OnBoard}
 use Rattle.cartridge.specs.declared.Cartridge.{Cartridge}
 use Rattle.cartridge.specs.declared.MapperType.the-variants.{Mmc1}
+use Rattle.mmc1.specs.Write.{reset, load, applied}
+use Rattle.mmc1.specs.declared.Mmc1 as mmc1-type
+use Rattle.mmc1.specs.declared.Move.{Move}
+use Rattle.mmc1.specs.declared.Move.the-variants.{Nothing, Clear, Enter, Fill}
 use Rattle.mmc1.specs.declared.Register.{Register}
 use Rattle.mmc1.specs.declared.Register.the-variants.{Control, Chr0, Chr1, Prg}
 use Rattle.boards.specs.Runs.{Call, next, after}
 use Rattle.boards.specs.declared.Board.{Board}
-use Rattle.laws.specs.Loads.{completes, loads}
-use Rattle.laws.specs.Loads.Done.{load}
+use Rattle.laws.specs.Loads.{made, moves}
 use Rattle.laws.specs.SettlesMmc1.{bit4At, LoadsAt}
 use Rattle.laws.proofs.Ranges.{next-keeps-cart}
-use Rattle.laws.proofs.Mmc1Moves.{Move, no-load, filled, move, chrModeAfter, next-is, done, completes-is}
-use Rattle.laws.proofs.Mmc1Moves.Move.{stay, clear, enter, fill}
+use Rattle.laws.proofs.Mmc1Moves.{no-load, next-is}
 
 -- the position of a load, one call further on
 later : {b : Board} {c : Call} {cs : List Call} {r : Register} {i : ℕ} → LoadsAt (next b c) cs r i → LoadsAt b (c ∷ cs) r (suc i)
-unfolding loads
+unfolding moves
 later l = record { bits = l .bits; done = l .done }
 
-still : (k : Move) (x : ℕ) → ((v : ℕ) → done k ≡ load Control v → ⊥) → chrModeAfter k x ≡ x
-still stay x h = refl
-still clear x h = refl
-still (enter t) x h = refl
-still (fill Control v) x h = absurd (h v refl)
-still (fill Chr0 v) x h = refl
-still (fill Chr1 v) x h = refl
-still (fill Prg v) x h = refl
+still : (m : Mode) (k : Move) (x : mmc1-type.Mmc1) → ((v : ℕ) → k ≡ Fill Control v → ⊥) → applied m k x .regs .chrmode ≡ x .regs .chrmode
+unfolding applied reset load
+still m Nothing x h = refl
+still House Clear x h = refl
+still OnBoard Clear x h = refl
+still m (Enter s) x h = refl
+still m (Fill Control v) x h = absurd (h v refl)
+still m (Fill Chr0 v) x h = refl
+still m (Fill Chr1 v) x h = refl
+still m (Fill Prg v) x h = refl
 
 module _ (b : Board) (is-mmc1 : b .cart .mapper ≡ Mmc1) (c : Call) where
   next-mmc1 : next b c .cart .mapper ≡ Mmc1
   next-mmc1 = ap (λ (x : Cartridge). x .mapper) (next-keeps-cart b c) ∙ is-mmc1
 
-  moved-mode : next b c .mmc1 .regs .chrmode ≡ chrModeAfter (move b c) (b .mmc1 .regs .chrmode)
-  moved-mode = ap (λ (x : Board). x .mmc1 .regs .chrmode) (next-is b is-mmc1 c)
+  moved-mode : next b c .registers .mmc1 .regs .chrmode ≡ applied (b .cart .mode) (made b c) (b .registers .mmc1) .regs .chrmode
+  moved-mode = ap (λ (x : Board). x .registers .mmc1 .regs .chrmode) (next-is b is-mmc1 c)
 
-  same-mode : ((v : ℕ) → completes b c ≡ load Control v → ⊥) → next b c .mmc1 .regs .chrmode ≡ b .mmc1 .regs .chrmode
-  same-mode h = moved-mode ∙ still (move b c) (b .mmc1 .regs .chrmode) (λ v e. h v (completes-is b is-mmc1 c ∙ e))
+  same-mode : ((v : ℕ) → made b c ≡ Fill Control v → ⊥) → next b c .registers .mmc1 .regs .chrmode ≡ b .registers .mmc1 .regs .chrmode
+  same-mode h = moved-mode ∙ still (b .cart .mode) (made b c) (b .registers .mmc1) h
 
-  set-mode : (v : ℕ) → completes b c ≡ load Control v → next b c .mmc1 .regs .chrmode ≡ v / 16 % 2
-  set-mode v e =
-      moved-mode ∙ ap (λ (k : Move). chrModeAfter k (b .mmc1 .regs .chrmode)) (filled (move b c) Control v (sym (completes-is b is-mmc1 c) ∙ e))
+  set-mode : (v : ℕ) → made b c ≡ Fill Control v → next b c .registers .mmc1 .regs .chrmode ≡ v / 16 % 2
+  unfolding applied load
+  set-mode v e = moved-mode ∙ ap (λ (k : Move). applied (b .cart .mode) k (b .registers .mmc1) .regs .chrmode) e
 
 -- with no control load the mode stays
-stays : (b : Board) → b .cart .mapper ≡ Mmc1 → (cs : List Call) (j : ℕ) → ((k : ℕ) → k < j → LoadsAt b cs Control k → ⊥) → bit4At b cs j ≡ b .mmc1 .regs .chrmode
-unfolding after loads
+stays : (b : Board) → b .cart .mapper ≡ Mmc1 → (cs : List Call) (j : ℕ) → ((k : ℕ) → k < j → LoadsAt b cs Control k → ⊥) → bit4At b cs j ≡ b .registers .mmc1 .regs .chrmode
+unfolding after moves
 stays b e cs zero h = refl
 stays b e [] (suc j) h = refl
 stays b e (c ∷ cs) (suc j) h =
@@ -57,7 +63,7 @@ stays b e (c ∷ cs) (suc j) h =
 -- "while control bit 4 is set" by positions: the control load at i is the last before j
 pub bit-4-is-the-last-control-loads : (b : Board) → b .cart .mapper ≡ Mmc1 → (cs : List Call) (i j : ℕ) → i < j → (l : LoadsAt b cs Control i)
     → ((k : ℕ) → i < k → k < j → LoadsAt b cs Control k → ⊥) → bit4At b cs j ≡ l .bits / 16 % 2
-unfolding after loads
+unfolding after moves
 bit-4-is-the-last-control-loads b e [] i j p l h = absurd (no-load Control (l .bits) (l .done))
 bit-4-is-the-last-control-loads b e (c ∷ cs) i zero p l h = absurd (omega arith)
 bit-4-is-the-last-control-loads b e (c ∷ cs) zero (suc j) p l h =

@@ -24,3 +24,4 @@ pub mod SettlesMmc1
 pub mod SettlesMmc1Met
 pub mod ControlBit4
 pub mod Mark
+pub mod OutOfRange

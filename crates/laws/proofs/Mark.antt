@@ -13,7 +13,7 @@ use Rattle.common.specs.declared.Mode.{Mode}
 use Rattle.common.specs.declared.Mode.the-variants.{House, Board as OnBoard}
 use Rattle.memory.specs.Memory.{byte}
 use Rattle.cartridge.specs.Header.{isInes, headerOf, mirroringOf, isNes2}
-use Rattle.cartridge.specs.Load.{verdictOn, verdict, cartridgeOf, loadedAs, prgTotal, prgRom, chrRom}
+use Rattle.cartridge.specs.Load.{verdictOn, verdict, cartridgeOf, loadedAs, couldLoad, prgTotal, prgRom, chrRom}
 use Rattle.cartridge.specs.declared.Cartridge.{Cartridge}
 use Rattle.cartridge.specs.declared.MapperType.{MapperType}
 use Rattle.cartridge.specs.declared.MapperType.the-variants.{Nrom, Mmc1, Uxrom, Cnrom, Mmc3}
@@ -24,33 +24,22 @@ use Rattle.places.specs.Places.{byteOf}
 use Rattle.places.specs.declared.Place.{Place}
 use Rattle.places.specs.declared.Place.the-variants.{Prg, Chr, PrgRam, ChrRam, Zero, Refused}
 use Rattle.boards.specs.Start.{startOf, loadedBoard}
-use Rattle.boards.specs.Range.{inRange, isLoaded}
-use Rattle.boards.specs.Read.{readPlace}
+use Rattle.boards.specs.Range.{mirroringFits, inRange, isLoaded}
+use Rattle.boards.specs.Read.{readPlaceOn, readPlace}
 use Rattle.boards.specs.Read as reads
-use Rattle.boards.specs.Write.{writePlace, moved, writtenAs, landing}
-use Rattle.boards.specs.Clock.{ticked, unmoved}
+use Rattle.boards.specs.Write.{writePlaceOn, writePlace, turned, acceptedWrite, writtenAs, landing}
+use Rattle.boards.specs.Clock.{acceptedClock}
 use Rattle.boards.specs.Clock as clocks
 use Rattle.boards.specs.Runs.{Lent, Call, next, answer, prgAfter, chrAfter, after, answers}
 use Rattle.boards.specs.Runs.Call.{read, write, clock}
 use Rattle.boards.specs.declared.Board.{Board}
+use Rattle.boards.specs.declared.Registers.{Registers}
 use Rattle.boards.specs.declared.Clocked.{Clocked}
 use Rattle.boards.specs.declared.ClockAnswer.the-variants.{Refused as NotClocked}
 use Rattle.boards.specs.declared.LoadAnswer.the-variants.{Accepted}
 use Rattle.boards.specs.declared.Written.{Written}
 use Rattle.laws.specs.Mark.{marked, cartMarked, withByte7, callWith, SameLoad, SameCall, SameRun}
 use Rattle.laws.proofs.Opened.{opened}
-
--- a board with this mode, mapper and mark, and all else as b has it
-abbrev board : Mode → MapperType → Bool → Board → Board
-board mode k mark b =
-    record {
-      cart = record { mode = mode; mapper = k; nes2 = mark; mirroring = b .cart .mirroring; prg = b .cart .prg; chr = b .cart .chr; length = b .cart .length };
-      mirroring = b .mirroring;
-      uxrom = b .uxrom;
-      cnrom = b .cnrom;
-      mmc1 = b .mmc1;
-      mmc3 = b .mmc3;
-    }
 
 -- what a write or a clock leaves, with this mark
 abbrev written : Bool → Written → Written
@@ -59,26 +48,25 @@ written mark w = record { board = marked mark (w .board); answer = w .answer }
 abbrev clocked : Bool → Clocked → Clocked
 clocked mark t = record { board = marked mark (t .board); answer = t .answer }
 
--- two such boards with different marks
-record Alike (mode : Mode) (k : MapperType) (x y : Bool) (b : Board) : Type 0 where
-  range : inRange (board mode k x b) ≡ inRange (board mode k y b)
-  reads : (a : ℕ) → readPlace (board mode k x b) a ≡ readPlace (board mode k y b) a
-  writes : (a : ℕ) → writePlace (board mode k x b) a ≡ writePlace (board mode k y b) a
-  moves : (v a : ℕ) → moved (board mode k x b) v a ≡ written x (moved (board mode k y b) v a)
-  ticks : ticked (board mode k x b) ≡ clocked x (ticked (board mode k y b))
+-- a cartridge with this mode and mark
+abbrev cartIn : Mode → Bool → Cartridge → Cartridge
+cartIn mode mark c =
+    record { mode = mode; mapper = c .mapper; nes2 = mark; mirroring = c .mirroring; prg = c .prg; chr = c .chr; length = c .length }
 
-alike : (mode : Mode) (k : MapperType) (x y : Bool) (b : Board) → Alike mode k x y b
+-- places of reads and writes, by mode and mapper: the definitions look at other fields only
+place-alike : (mode : Mode) (k : MapperType) (x y : Bool) (r : Registers) (c : Cartridge) (a : ℕ)
+    → (readPlaceOn k r (cartIn mode x c) a ≡ readPlaceOn k r (cartIn mode y c) a) × (writePlaceOn k r (cartIn mode x c) a ≡ writePlaceOn k r (cartIn mode y c) a)
 unfolding opened
-alike House Nrom x y b = record { range = refl; reads = λ a. refl; writes = λ a. refl; moves = λ v a. refl; ticks = refl }
-alike House Mmc1 x y b = record { range = refl; reads = λ a. refl; writes = λ a. refl; moves = λ v a. refl; ticks = refl }
-alike House Uxrom x y b = record { range = refl; reads = λ a. refl; writes = λ a. refl; moves = λ v a. refl; ticks = refl }
-alike House Cnrom x y b = record { range = refl; reads = λ a. refl; writes = λ a. refl; moves = λ v a. refl; ticks = refl }
-alike House Mmc3 x y b = record { range = refl; reads = λ a. refl; writes = λ a. refl; moves = λ v a. refl; ticks = refl }
-alike OnBoard Nrom x y b = record { range = refl; reads = λ a. refl; writes = λ a. refl; moves = λ v a. refl; ticks = refl }
-alike OnBoard Mmc1 x y b = record { range = refl; reads = λ a. refl; writes = λ a. refl; moves = λ v a. refl; ticks = refl }
-alike OnBoard Uxrom x y b = record { range = refl; reads = λ a. refl; writes = λ a. refl; moves = λ v a. refl; ticks = refl }
-alike OnBoard Cnrom x y b = record { range = refl; reads = λ a. refl; writes = λ a. refl; moves = λ v a. refl; ticks = refl }
-alike OnBoard Mmc3 x y b = record { range = refl; reads = λ a. refl; writes = λ a. refl; moves = λ v a. refl; ticks = refl }
+place-alike House Nrom x y r c a = (refl, refl)
+place-alike House Mmc1 x y r c a = (refl, refl)
+place-alike House Uxrom x y r c a = (refl, refl)
+place-alike House Cnrom x y r c a = (refl, refl)
+place-alike House Mmc3 x y r c a = (refl, refl)
+place-alike OnBoard Nrom x y r c a = (refl, refl)
+place-alike OnBoard Mmc1 x y r c a = (refl, refl)
+place-alike OnBoard Uxrom x y r c a = (refl, refl)
+place-alike OnBoard Cnrom x y r c a = (refl, refl)
+place-alike OnBoard Mmc3 x y r c a = (refl, refl)
 
 -- what follows a place past byte 7 does not see it
 drop-set : (k i : ℕ) (s : List ℕ) (v : ℕ) → i < k → drop k (set s i v) ≡ drop k s
@@ -99,39 +87,52 @@ byte-alike x v c (Refused why) image prg chr = refl
 
 -- one board and its likeness
 module _ (x : Bool) (u : ℕ) (b : Board) where
-  both : Alike (b .cart .mode) (b .cart .mapper) x (b .cart .nes2) b
-  both = alike (b .cart .mode) (b .cart .mapper) x (b .cart .nes2) b
+  range-alike : inRange (marked x b) ≡ inRange b
+  unfolding inRange couldLoad mirroringFits
+  range-alike = refl
+
+  reads-alike : (a : ℕ) → readPlace (marked x b) a ≡ readPlace b a
+  unfolding readPlace
+  reads-alike a = place-alike (b .cart .mode) (b .cart .mapper) x (b .cart .nes2) (b .registers) (b .cart) a .0
+
+  writes-alike : (a : ℕ) → writePlace (marked x b) a ≡ writePlace b a
+  unfolding writePlace
+  writes-alike a = place-alike (b .cart .mode) (b .cart .mapper) x (b .cart .nes2) (b .registers) (b .cart) a .1
+
+  moves-alike : (v a : ℕ) → acceptedWrite (marked x b) v a ≡ written x (acceptedWrite b v a)
+  unfolding acceptedWrite turned
+  moves-alike v a = refl
 
   loaded : (image : List ℕ) → isLoaded (marked x b) (length (withByte7 u image)) ≡ isLoaded b (length image)
   unfolding isLoaded
   loaded image =
       ap (λ (n : ℕ). isLoaded (marked x b) n) (length-set image 7 u)
-      ∙ ap (λ (t : Bool). t && eqb (length image) (b .cart .length)) (both .range)
+      ∙ ap (λ (t : Bool). t && eqb (length image) (b .cart .length)) range-alike
 
   lands : (l : Lent) (a : ℕ) → landing (marked x b) (withByte7 u (l .image)) (l .prg) (l .chr) a ≡ landing b (l .image) (l .prg) (l .chr) a
   unfolding landing
-  lands l a = simp (loaded (l .image), both .writes)
+  lands l a = simp (loaded (l .image), writes-alike)
 
   leaves : (p : Place) (v a : ℕ) → writtenAs (marked x b) p v a ≡ written x (writtenAs b p v a)
   unfolding writtenAs
   leaves (Refused why) v a = refl
-  leaves (Prg i) v a = both .moves v a
-  leaves (Chr i) v a = both .moves v a
-  leaves (PrgRam i) v a = both .moves v a
-  leaves (ChrRam i) v a = both .moves v a
-  leaves Zero v a = both .moves v a
+  leaves (Prg i) v a = moves-alike v a
+  leaves (Chr i) v a = moves-alike v a
+  leaves (PrgRam i) v a = moves-alike v a
+  leaves (ChrRam i) v a = moves-alike v a
+  leaves Zero v a = moves-alike v a
 
   ticks-alike : clocks.clock (marked x b) ≡ clocked x (clocks.clock b)
-  unfolding clocks.clock unmoved
-  ticks-alike = simp (both .range) (go (inRange b))
+  unfolding clocks.clock acceptedClock
+  ticks-alike = simp range-alike (go (inRange b))
     where
-      go : (t : Bool) → cond t (ticked (marked x b)) (unmoved (marked x b) (NotClocked StateOutOfRange)) ≡ clocked x (cond t (ticked b) (unmoved b (NotClocked StateOutOfRange)))
-      go true = both .ticks
+      go : (t : Bool) → cond t (acceptedClock (marked x b)) (record { board = marked x b; answer = NotClocked StateOutOfRange }) ≡ clocked x (cond t (acceptedClock b) (record { board = b; answer = NotClocked StateOutOfRange }))
+      go true = refl
       go false = refl
 
   answer-alike : (c : Call) → answer (marked x b) (callWith u c) ≡ answer b c
   unfolding answer reads.read
-  answer-alike (read l a) = simp (loaded (l .image), both .reads, byte-alike x u (b .cart))
+  answer-alike (read l a) = simp (loaded (l .image), reads-alike, byte-alike x u (b .cart))
   answer-alike (write l a v) = simp (lands, leaves)
   answer-alike clock = simp (ticks-alike)
 

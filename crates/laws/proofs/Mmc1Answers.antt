@@ -5,8 +5,7 @@ use mathlib.Core.Path.{_≡_, refl, sym, ap, ap₂, _∙_, subst⁻¹}
 use mathlib.Core.Bool.{true}
 use mathlib.Core.List.{List, [], _∷_}
 use lib.ListN.{length}
-use Rattle.common.specs.declared.Mode.{Mode}
-use Rattle.common.specs.declared.Mode.the-variants.{House, Board as OnBoard}
+use Rattle.cartridge.specs.Answers.{isMapper}
 use Rattle.cartridge.specs.declared.Cartridge.{Cartridge}
 use Rattle.cartridge.specs.declared.MapperType.{MapperType}
 use Rattle.cartridge.specs.declared.MapperType.the-variants.{Mmc1}
@@ -15,11 +14,12 @@ use Rattle.places.specs.Places.{byteOf, answerAt, storedPrg, storedChr}
 use Rattle.places.specs.declared.Place.{Place}
 use Rattle.places.specs.declared.Place.the-variants.{Prg, Chr, PrgRam, ChrRam, Zero, Refused}
 use Rattle.mmc1.specs.Read as mmc1
-use Rattle.mmc1.specs.Write.{written}
+use Rattle.mmc1.specs.Write.{applied, mirrorsOf, written}
 use Rattle.mmc1.specs.declared.Mmc1 as mmc1-type
+use Rattle.boards.specs.Registers.{moved, ticked}
 use Rattle.boards.specs.Range.{inRange, ramsFit, guarded}
 use Rattle.boards.specs.Read as read-call
-use Rattle.boards.specs.Write.{writePlaceOn, writePlace, againstIn, nextMirroring, notice, turned, mmc1Written, movedOn, moved, writtenAs, landing}
+use Rattle.boards.specs.Write.{writePlaceOn, writePlace, againstIn, against, nextMirroring, notice, turned, acceptedWrite, writtenAs, landing}
 use Rattle.boards.specs.Clock as ticks
 use Rattle.boards.specs.Runs.{Lent, Call, next, answer, prgAfter, chrAfter, answers}
 use Rattle.boards.specs.Runs.Call.{read, write, clock}
@@ -30,36 +30,25 @@ use Rattle.boards.specs.declared.WriteAnswer.{WriteAnswer}
 use Rattle.boards.specs.declared.WriteAnswer.the-variants.{Refused as NotWritten}
 use Rattle.laws.specs.Calls.{Event, call, left, played, leftAfter}
 use Rattle.laws.specs.Calls.Event.{reads, writes, clocks}
+use Rattle.laws.specs.Loads.{made}
 use Rattle.laws.specs.SettlesMmc1.{Agree}
 use Rattle.laws.proofs.Accepting.{loaded-alike}
-use Rattle.laws.proofs.Mmc1Moves.{move, asks, mmc1After, Common, by-move, next-common}
+use Rattle.laws.proofs.Mmc1Moves.{Common, by-move, next-common}
 
 -- where reads and writes land
 module _ (b : Board) (is-mmc1 : b .cart .mapper ≡ Mmc1) where
-  read-place : (a : ℕ) → read-call.readPlace b a ≡ mmc1.readPlace (b .mmc1) (b .cart) a
+  read-place : (a : ℕ) → read-call.readPlace b a ≡ mmc1.readPlace (b .registers .mmc1) (b .cart) a
   unfolding read-call.readPlace read-call.readPlaceOn
-  read-place a = subst⁻¹ (λ (k : MapperType). read-call.readPlaceOn k b a ≡ mmc1.readPlace (b .mmc1) (b .cart) a) is-mmc1 refl
+  read-place a = subst⁻¹ (λ (k : MapperType). read-call.readPlaceOn k (b .registers) (b .cart) a ≡ mmc1.readPlace (b .registers .mmc1) (b .cart) a) is-mmc1 refl
 
-  write-place : (a : ℕ) → writePlace b a ≡ mmc1.writePlace (b .mmc1) (b .cart) a
+  write-place : (a : ℕ) → writePlace b a ≡ mmc1.writePlace (b .registers .mmc1) (b .cart) a
   unfolding writePlace writePlaceOn
-  write-place a = subst⁻¹ (λ (k : MapperType). writePlaceOn k b a ≡ mmc1.writePlace (b .mmc1) (b .cart) a) is-mmc1 refl
-
--- the mirroring that a notice is compared with
-compared : Mode → Mirroring → Mirroring → Mirroring
-compared House headers now = headers
-compared OnBoard headers now = now
-
-against-is : (m : Mode) (b : Board) → againstIn m b ≡ compared m (b .cart .mirroring) (b .mirroring)
-unfolding againstIn compared
-against-is House b = refl
-against-is OnBoard b = refl
+  write-place a = subst⁻¹ (λ (k : MapperType). writePlaceOn k (b .registers) (b .cart) a ≡ mmc1.writePlace (b .registers .mmc1) (b .cart) a) is-mmc1 refl
 
 moved-answer : (b : Board) → b .cart .mapper ≡ Mmc1 → (v a : ℕ)
-    → moved b v a .answer ≡ notice (compared (b .cart .mode) (b .cart .mirroring) (b .mirroring)) (written (b .cart .mode) (b .mmc1) v a .mirrors)
-unfolding moved movedOn mmc1Written turned
-moved-answer b e v a =
-    subst⁻¹ (λ (k : MapperType). movedOn k b v a .answer ≡ notice (compared (b .cart .mode) (b .cart .mirroring) (b .mirroring)) (written (b .cart .mode) (b .mmc1) v a .mirrors)) e
-    (ap (λ (s : Mirroring). notice s (written (b .cart .mode) (b .mmc1) v a .mirrors)) (against-is (b .cart .mode) _))
+    → acceptedWrite b v a .answer ≡ notice (against b) (written (b .cart .mode) (b .registers .mmc1) v a .mirrors)
+unfolding acceptedWrite turned moved
+moved-answer b e v a = ap (λ (k : MapperType). notice (against b) (moved k (b .cart .mode) (b .registers) v a .mirrors)) e
 
 -- a refusal, or the answer of the move
 said : Place → WriteAnswer → WriteAnswer
@@ -70,7 +59,7 @@ said (PrgRam i) w = w
 said (ChrRam i) w = w
 said Zero w = w
 
-said-is : (b : Board) (p : Place) (v a : ℕ) → writtenAs b p v a .answer ≡ said p (moved b v a .answer)
+said-is : (b : Board) (p : Place) (v a : ℕ) → writtenAs b p v a .answer ≡ said p (acceptedWrite b v a .answer)
 unfolding writtenAs said
 said-is b (Refused why) v a = refl
 said-is b (Prg i) v a = refl
@@ -80,8 +69,8 @@ said-is b (ChrRam i) v a = refl
 said-is b Zero v a = refl
 
 clock-answer : (b : Board) → inRange b ≡ true → b .cart .mapper ≡ Mmc1 → ticks.clock b .answer ≡ No
-unfolding ticks.clock ticks.ticked ticks.tickedOn ticks.unmoved
-clock-answer b ok e = rw ok (subst⁻¹ (λ (k : MapperType). ticks.tickedOn k b .answer ≡ No) e refl)
+unfolding ticks.clock ticks.acceptedClock ticks.yesNo ticked isMapper
+clock-answer b ok e = rw ok (ap (λ (k : MapperType). ticks.yesNo (ticked k (b .cart .mode) (b .registers) .yes)) e)
 
 -- two boards that agree
 pub record Alike (b d : Board) : Type 0 where
@@ -119,7 +108,7 @@ module _ {b d : Board} (r : Alike b d) where
       (said-is b (landing b (l .image) (l .prg) (l .chr) a) v a
       ∙ ap₂ said (landing-alike l a)
       (moved-answer b (r .is-mmc1) v a
-      ∙ (λ i. notice (compared (cart i .mode) (cart i .mirroring) (r .agree .mirroring i)) (written (cart i .mode) (r .agree .mmc1 i) v a .mirrors))
+      ∙ (λ i. notice (againstIn (cart i .mode) (cart i .mirroring) (r .agree .mirroring i)) (written (cart i .mode) (r .agree .mmc1 i) v a .mirrors))
       ∙ sym (moved-answer d second-mmc1 v a))
       ∙ sym (said-is d (landing d (l .image) (l .prg) (l .chr) a) v a))
   answer-alike clock = ap toClock (clock-answer b (r .first) (r .is-mmc1) ∙ sym (clock-answer d (r .second) second-mmc1))
@@ -142,8 +131,8 @@ module _ {b d : Board} (r : Alike b d) where
       record {
         agree = record {
           cart = n .cart;
-          mirroring = by-move common (λ (x y : Board). x .mirroring ≡ y .mirroring) c (ap (λ (s : Mirroring). nextMirroring (b .cart .mode) s (asks (move b c))) (r .agree .mirroring));
-          mmc1 = by-move common (λ (x y : Board). x .mmc1 ≡ y .mmc1) c (ap (mmc1After (move b c) (b .cart .mode)) (r .agree .mmc1));
+          mirroring = by-move common (λ (x y : Board). x .mirroring ≡ y .mirroring) c (ap (λ (s : Mirroring). nextMirroring (b .cart .mode) s (mirrorsOf (made b c))) (r .agree .mirroring));
+          mmc1 = by-move common (λ (x y : Board). x .registers .mmc1 ≡ y .registers .mmc1) c (ap (applied (b .cart .mode) (made b c)) (r .agree .mmc1));
         };
         is-mmc1 = n .is-mmc1;
         first = n .first;

@@ -1,7 +1,7 @@
 -- MMC1's fields stay in range: a bit that enters halves what the serial value is a multiple of, and a load keeps its bits. Assumes nothing.
 use Prim.Native.Nat.{ℕ, zero, suc, _+_, _-_, _*_, _/_, _%_, _^_, _<_}
 use mathlib.Core.Path.{_≡_, refl}
-use mathlib.Core.Bool.{Bool, true, false}
+use mathlib.Core.Bool.{true, cond}
 use native.Mathlib.Omega.{arith}
 use lib.Dec.{ltb, eqb}
 use borrow.Author.Tests.{ltb-true, eqb-true, lt-ltb, eq-eqb}
@@ -9,13 +9,16 @@ use Rattle.rules.proofs.Bools.{and-left, and-right, split-3, split-5}
 use Rattle.common.specs.Common.{isSigned}
 use Rattle.common.specs.declared.Mode.{Mode}
 use Rattle.common.specs.declared.Mode.the-variants.{House, Board}
-use Rattle.mmc1.specs.Write.{shifted, registerAt, houseChr0, houseChr1, houseLoad, boardLoad, load, reset, kept, resetAll, entered, completed, shiftedIn, serialWrite, written}
+use Rattle.mmc1.specs.Write.{empty, moveOf, reset, switches8Kb, storedChr0, storedChr1, load, applied, written}
 use Rattle.mmc1.specs.Range.{serialFits, regsFits, fits}
 use Rattle.mmc1.specs.declared.Serial.{Serial}
 use Rattle.mmc1.specs.declared.Regs.{Regs}
 use Rattle.mmc1.specs.declared.Mmc1.{Mmc1}
+use Rattle.mmc1.specs.declared.Move.{Move}
+use Rattle.mmc1.specs.declared.Move.the-variants.{Nothing, Clear, Enter, Fill}
 use Rattle.mmc1.specs.declared.Register.{Register}
 use Rattle.mmc1.specs.declared.Register.the-variants.{Control, Chr0, Chr1, Prg}
+use Rattle.laws.proofs.Cases.{either, by-test}
 
 -- five bits, whatever the byte
 below-32 : (v w : ℕ) → v < 32 → v / 2 + 16 * (w % 2) < 32
@@ -73,23 +76,16 @@ regs-fit r p =
 
 -- a load of five bits
 loads : (mode : Mode) (r : Regs) (w : Register) (v : ℕ) → v < 32 → Ranged r → Ranged (load mode r w v)
-unfolding load houseLoad boardLoad houseChr0 houseChr1
-loads House r Control v h p = omega arith
-loads Board r Control v h p = omega arith
-loads House r Prg v h p = omega arith
-loads Board r Prg v h p = omega arith
+unfolding load storedChr0 storedChr1
+loads mode r Control v h p = omega arith
+loads mode r Prg v h p = omega arith
 loads Board r Chr0 v h p = omega arith
 loads Board r Chr1 v h p = omega arith
-loads House r Chr0 v h p = go (eqb (r .chrmode) 0) refl
-  where
-    go : (b : Bool) → eqb (r .chrmode) 0 ≡ b → Ranged (houseChr0 r v)
-    go true e = rw e (omega arith)
-    go false e = rw e (omega arith)
-loads House r Chr1 v h p = go (eqb (r .chrmode) 0) refl
-  where
-    go : (b : Bool) → eqb (r .chrmode) 0 ≡ b → Ranged (houseChr1 r v)
-    go true e = rw e (omega arith)
-    go false e = rw e (omega arith)
+loads House r Chr0 v h p =
+    let chr0 : cond (switches8Kb (r .chrmode)) (v / 2) v < 32 = either (λ (n : ℕ). n < 32) (switches8Kb (r .chrmode)) (omega arith) h in
+    record { prgmode = p .prgmode; chrmode = p .chrmode; chr0 = chr0; chr1 = p .chr1; prg = p .prg }
+loads House r Chr1 v h p =
+    record { prgmode = p .prgmode; chrmode = p .chrmode; chr0 = p .chr0; chr1 = either (λ (n : ℕ). n < 32) (switches8Kb (r .chrmode)) (p .chr1) h; prg = p .prg }
 
 resets : (mode : Mode) (r : Regs) → Ranged r → Ranged (reset mode r)
 unfolding reset
@@ -101,33 +97,39 @@ joined : (m : Mmc1) → Serially (m .serial) → Ranged (m .regs) → fits m ≡
 unfolding fits
 joined m s r = rw (serial-fits (m .serial) s, regs-fit (m .regs) r) refl
 
+-- a move whose bits are in range
+abbrev Fitting : Move → Type 0
+Fitting Nothing = Unit {0}
+Fitting Clear = Unit {0}
+Fitting (Enter s) = Serially s
+Fitting (Fill w v) = v < 32
+
+moves : (s : Serial) (v a : ℕ) → Serially s → Fitting (moveOf s v a)
+unfolding moveOf
+moves s v a p =
+    either Fitting (ltb a 0x8000) tt
+    (either Fitting (isSigned v) tt
+    (by-test Fitting (ltb (s .count) 4)
+    (λ e. record {
+      count = omega (arith, ltb-true (s .count) 4 e);
+      value = below-32 (s .value) v (p .value);
+      multiple-of = multiple (s .count) (s .value) v (ltb-true (s .count) 4 e) (p .multiple-of);
+    })
+    (λ e. below-32 (s .value) v (p .value))))
+
+none : Serially empty
+none = record { count = omega arith; value = omega arith; multiple-of = refl }
+
+applied-fits : (mode : Mode) (k : Move) (m : Mmc1) → Fitting k → Serially (m .serial) → Ranged (m .regs) → fits (applied mode k m) ≡ true
+unfolding applied
+applied-fits mode Nothing m f s r = joined m s r
+applied-fits mode Clear m f s r = joined (record { serial = empty; regs = reset mode (m .regs) }) none (resets mode (m .regs) r)
+applied-fits mode (Enter t) m f s r = joined (record { serial = t; regs = m .regs }) f r
+applied-fits mode (Fill w v) m f s r = joined (record { serial = empty; regs = load mode (m .regs) w v }) none (loads mode (m .regs) w v f r)
+
 pub written-fits : (mode : Mode) (m : Mmc1) (v a : ℕ) → fits m ≡ true → fits (written mode m v a .mmc1) ≡ true
-unfolding fits written serialWrite shiftedIn resetAll entered completed kept
-written-fits mode m v a e = go (ltb a 0x8000) (isSigned v) (ltb (m .serial .count) 4) refl refl refl
-  where
-    s : Serially (m .serial)
-    s = serially (m .serial) (and-left (serialFits (m .serial)) (regsFits (m .regs)) e)
-
-    r : Ranged (m .regs)
-    r = ranged (m .regs) (and-right (serialFits (m .serial)) (regsFits (m .regs)) e)
-
-    none : Serially (record { count = 0; value = 0 })
-    none = record { count = omega arith; value = omega arith; multiple-of = refl }
-
-    go : (x y z : Bool) → ltb a 0x8000 ≡ x → isSigned v ≡ y → ltb (m .serial .count) 4 ≡ z → fits (written mode m v a .mmc1) ≡ true
-    go true y z d f g = rw d e
-    go false true z d f g = rw (d, f) (joined (record { serial = record { count = 0; value = 0 }; regs = reset mode (m .regs) }) none (resets mode (m .regs) r))
-    go false false true d f g =
-        rw (d, f, g)
-        (joined (record { serial = record { count = m .serial .count + 1; value = shifted (m .serial) v }; regs = m .regs })
-        (record {
-          count = omega (arith, ltb-true (m .serial .count) 4 g);
-          value = below-32 (m .serial .value) v (s .value);
-          multiple-of = multiple (m .serial .count) (m .serial .value) v (ltb-true (m .serial .count) 4 g) (s .multiple-of);
-        })
-        r)
-    go false false false d f g =
-        rw (d, f, g)
-        (joined (record { serial = record { count = 0; value = 0 }; regs = load mode (m .regs) (registerAt a) (shifted (m .serial) v) })
-        none
-        (loads mode (m .regs) (registerAt a) (shifted (m .serial) v) (below-32 (m .serial .value) v (s .value)) r))
+unfolding fits written
+written-fits mode m v a e =
+    let s = serially (m .serial) (and-left (serialFits (m .serial)) (regsFits (m .regs)) e) in
+    let r = ranged (m .regs) (and-right (serialFits (m .serial)) (regsFits (m .regs)) e) in
+    applied-fits mode (moveOf (m .serial) v a) m (moves (m .serial) v a s) s r

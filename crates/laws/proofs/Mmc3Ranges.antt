@@ -15,11 +15,12 @@ use Rattle.cartridge.specs.declared.Mirrors.{Mirrors}
 use Rattle.cartridge.specs.declared.Mirrors.the-variants.{AsBefore, As}
 use Rattle.mmc3.specs.Clock.{withIrq, clocked, clockIn}
 use Rattle.mmc3.specs.Read.{register}
-use Rattle.mmc3.specs.Write.{kept, selected, keptBits, stored, screens, latched, marked, switched, writtenEven, writtenOdd, written}
+use Rattle.mmc3.specs.Write.{moveOf, keptBits, applied, screens, mirrorsOf, written}
 use Rattle.mmc3.specs.Range.{fits}
 use Rattle.mmc3.specs.declared.Irq.{Irq}
 use Rattle.mmc3.specs.declared.Mmc3.{Mmc3}
-use Rattle.mmc3.specs.declared.Wrote.{Wrote}
+use Rattle.mmc3.specs.declared.Move.{Move}
+use Rattle.mmc3.specs.declared.Move.the-variants.{Nothing, Select, Data, Screens, Latch, Reload, Enable, Disable}
 use Rattle.laws.proofs.Cases.{either}
 
 -- after a store an element is as it was, or it is the one stored
@@ -70,9 +71,9 @@ kept-six : (s v : ℕ) → 6 ≤ s → keptBits s v < 64
 unfolding keptBits
 kept-six s v h = let g : 2 ≤ s = omega arith in rw (le-ltb s 2 g, le-leb 6 s h) (omega arith)
 
-stored-ranged : (m : Mmc3) (v : ℕ) → Ranged m → Ranged (stored m v)
-unfolding stored
-stored-ranged m v p =
+data-ranged : (m : Mmc3) (v : ℕ) → Ranged m → Ranged (applied (Data v) m)
+unfolding applied
+data-ranged m v p =
     record {
       select = p .select;
       prgmode = p .prgmode;
@@ -107,44 +108,44 @@ pub clocked-fits : (mode : Mode) (m : Mmc3) → fits m ≡ true → fits (clocke
 unfolding clocked
 clocked-fits mode m e = with-irq m (clockIn mode (m .irq) .irq) ∙ e
 
-selected-fits : (m : Mmc3) (v : ℕ) → fits m ≡ true → fits (selected m v) ≡ true
-unfolding selected
-selected-fits m v e =
+select-fits : (m : Mmc3) (v : ℕ) → fits m ≡ true → fits (applied (Select v) m) ≡ true
+unfolding applied
+select-fits m v e =
     let p = ranged m e in
-    in-fits (selected m v)
+    in-fits (applied (Select v) m)
     (record { select = omega arith; prgmode = omega arith; chrmode = omega arith; r0 = p .r0; r1 = p .r1; r6 = p .r6; r7 = p .r7 })
 
-abbrev Fits : Wrote → Type 0
-Fits w = fits (w .mmc3) ≡ true
+applied-fits : (k : Move) (m : Mmc3) → fits m ≡ true → fits (applied k m) ≡ true
+unfolding applied
+applied-fits Nothing m e = e
+applied-fits (Select v) m e = select-fits m v e
+applied-fits (Data v) m e = in-fits (applied (Data v) m) (data-ranged m v (ranged m e))
+applied-fits (Screens v) m e = e
+applied-fits (Latch v) m e = with-irq m _ ∙ e
+applied-fits Reload m e = with-irq m _ ∙ e
+applied-fits Enable m e = with-irq m _ ∙ e
+applied-fits Disable m e = with-irq m _ ∙ e
 
 pub written-fits : (m : Mmc3) (v a : ℕ) → fits m ≡ true → fits (written m v a .mmc3) ≡ true
-unfolding written writtenEven writtenOdd kept latched marked switched
-written-fits m v a e =
-    either Fits (eqb (a % 2) 0)
-    (either Fits (ltb a 0x8000) e
-    (either Fits (ltb a 0xA000) (selected-fits m v e)
-    (either Fits (ltb a 0xC000) e
-    (either Fits (ltb a 0xE000) (with-irq m _ ∙ e) (with-irq m _ ∙ e)))))
-    (either Fits (ltb a 0x8000) e
-    (either Fits (ltb a 0xA000) (in-fits (stored m v) (stored-ranged m v (ranged m e)))
-    (either Fits (ltb a 0xC000) e
-    (either Fits (ltb a 0xE000) (with-irq m _ ∙ e) (with-irq m _ ∙ e)))))
+unfolding written
+written-fits m v a e = applied-fits (moveOf v a) m e
 
 -- what a write asks of the screens is one that a header can ask for
 abbrev pub headed : Mirrors → Bool
 headed AsBefore = true
 headed (As m) = isHeaders m
 
-abbrev Headed : Wrote → Type 0
-Headed w = headed (w .mirrors) ≡ true
+asks-headed : (k : Move) → headed (mirrorsOf k) ≡ true
+unfolding mirrorsOf screens
+asks-headed (Screens v) = either (λ s. isHeaders s ≡ true) (eqb (v % 2) 1) refl refl
+asks-headed Nothing = refl
+asks-headed (Select v) = refl
+asks-headed (Data v) = refl
+asks-headed (Latch v) = refl
+asks-headed Reload = refl
+asks-headed Enable = refl
+asks-headed Disable = refl
 
 pub written-headed : (m : Mmc3) (v a : ℕ) → headed (written m v a .mirrors) ≡ true
-unfolding written writtenEven writtenOdd kept screens
-written-headed m v a =
-    either Headed (eqb (a % 2) 0)
-    (either Headed (ltb a 0x8000) refl
-    (either Headed (ltb a 0xA000) refl
-    (either Headed (ltb a 0xC000) (either (λ s. isHeaders s ≡ true) (eqb (v % 2) 1) refl refl)
-    (either Headed (ltb a 0xE000) refl refl))))
-    (either Headed (ltb a 0x8000) refl
-    (either Headed (ltb a 0xA000) refl (either Headed (ltb a 0xC000) refl (either Headed (ltb a 0xE000) refl refl))))
+unfolding written
+written-headed m v a = asks-headed (moveOf v a)

@@ -35,12 +35,12 @@ plays-ticked p zero = p
 plays-ticked p (suc k) = plays-on (plays-ticked p k)
 
 -- after k clocks the board has the unit that k clocks leave
-follows : {mode : Mode} {b : Board} → Plays mode b → (k : ℕ) → ticked k b .mmc3 .irq ≡ unitAfter mode k (b .mmc3 .irq)
+follows : {mode : Mode} {b : Board} → Plays mode b → (k : ℕ) → ticked k b .registers .mmc3 .irq ≡ unitAfter mode k (b .registers .mmc3 .irq)
 follows p zero = refl
 follows {mode} {b} p (suc k) =
     let q = plays-ticked p k in
     tick-irq (ticked k b) (q .in-range) (q .is-mmc3)
-    ∙ ap (λ (m : Mode). mmc3-clock.clockIn m (ticked k b .mmc3 .irq) .irq) (q .in-mode)
+    ∙ ap (λ (m : Mode). mmc3-clock.clockIn m (ticked k b .registers .mmc3 .irq) .irq) (q .in-mode)
     ∙ ap (λ (u : Irq). mmc3-clock.clockIn mode u .irq) (follows p k)
 
 yes-no : (t : Bool) → isYes (toClock (clocks.yesNo t)) ≡ t
@@ -49,35 +49,35 @@ yes-no true = refl
 yes-no false = refl
 
 -- and answers as that unit does
-says : {mode : Mode} {b : Board} → Plays mode b → (k : ℕ) → saysYes k b ≡ unitSays mode k (b .mmc3 .irq)
+says : {mode : Mode} {b : Board} → Plays mode b → (k : ℕ) → saysYes k b ≡ unitSays mode k (b .registers .mmc3 .irq)
 unfolding answer
 says p zero = refl
 says {mode} {b} p (suc k) =
     let q = plays-ticked p k in
     ap (λ (a : ClockAnswer). isYes (toClock a)) (tick-answer (ticked k b) (q .in-range) (q .is-mmc3))
-    ∙ yes-no (mmc3-clock.clockIn (ticked k b .cart .mode) (ticked k b .mmc3 .irq) .answer)
-    ∙ ap (λ (m : Mode). mmc3-clock.clockIn m (ticked k b .mmc3 .irq) .answer) (q .in-mode)
+    ∙ yes-no (mmc3-clock.clockIn (ticked k b .cart .mode) (ticked k b .registers .mmc3 .irq) .answer)
+    ∙ ap (λ (m : Mode). mmc3-clock.clockIn m (ticked k b .registers .mmc3 .irq) .answer) (q .in-mode)
     ∙ ap (λ (u : Irq). mmc3-clock.clockIn mode u .answer) (follows p k)
 
 module _ {mode : Mode} {b : Board} {n : ℕ} (r : Ready mode n b) (k : ℕ) where
   -- the unit of a board that is ready
-  unit-says : saysYes k b ≡ unitSays mode k (ready n (b .mmc3 .irq .counter))
+  unit-says : saysYes k b ≡ unitSays mode k (ready n (b .registers .mmc3 .irq .counter))
   unit-says =
       says (r .plays) k
-      ∙ ap (unitSays mode k) (λ i. record { enabled = r .enabled i; latch = r .latch i; counter = b .mmc3 .irq .counter; reload = r .reload i })
+      ∙ ap (unitSays mode k) (λ i. record { enabled = r .enabled i; latch = r .latch i; counter = b .registers .mmc3 .irq .counter; reload = r .reload i })
 
 -- house: "clock k (from one) answers yes exactly when k is 2 or more and n + 1 divides k - 1"
 pub house-rule : (b : Board) (n k : ℕ) → Ready House n b → (saysYes k b ≡ true) ↔ ((2 ≤ k) × (n + 1 ∣ k - 1))
 house-rule b n k r =
     let e = unit-says r k in
-    let h = house-clocks n (b .mmc3 .irq .counter) k in
+    let h = house-clocks n (b .registers .mmc3 .irq .counter) k in
     (λ t. h .0 (sym e ∙ t), λ d. e ∙ h .1 d)
 
 -- board: "After the same three writes clock k answers yes exactly when n + 1 divides k"
 pub board-rule : (b : Board) (n k : ℕ) → Ready OnBoard n b → 1 ≤ k → (saysYes k b ≡ true) ↔ (n + 1 ∣ k)
 board-rule b n k r l =
     let e = unit-says r k in
-    let h = board-clocks n (b .mmc3 .irq .counter) k l in
+    let h = board-clocks n (b .registers .mmc3 .irq .counter) k l in
     (λ t. h .0 (sym e ∙ t), λ d. e ∙ h .1 d)
 
 -- "With latch n, reload and enable written": accepted writes to any of their addresses, each with its own buffers, make a board ready

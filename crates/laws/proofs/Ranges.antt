@@ -1,8 +1,8 @@
 -- Ranges are kept: the board that a load gives is in range, and so is the board after any call, so no run of calls is ever refused by 10 for its state.
 -- Assumes nothing.
 use Prim.Native.Nat.{ℕ, zero, suc, _%_, _<_, _≤_}
-use mathlib.Core.Path.{_≡_, refl, sym, ap, _∙_, subst, subst⁻¹}
-use mathlib.Core.Bool.{Bool, true, false, not, _&&_, _||_}
+use mathlib.Core.Path.{_≡_, refl, sym, ap, _∙_, subst⁻¹}
+use mathlib.Core.Bool.{Bool, true, false, false≢true, cond, not, _&&_, _||_}
 use mathlib.Core.List.{List, [], _∷_}
 use native.Mathlib.Omega.{arith}
 use lib.Dec.{ltb, leb, eqb}
@@ -12,7 +12,7 @@ use Rattle.rules.proofs.Bools.{and-right, and-both, split-3, split-4}
 use Rattle.common.specs.declared.Mode.{Mode}
 use Rattle.common.specs.declared.Mode.the-variants.{House, Board as OnBoard}
 use Rattle.memory.specs.Memory.{byte}
-use Rattle.cartridge.specs.Answers.{mapperNumber, mirroringLetter, same}
+use Rattle.cartridge.specs.Answers.{mapperNumber, isMapper, mirroringLetter, same}
 use Rattle.cartridge.specs.Header.{headerOf, isInes, mapperOf, isSpecial, mirroringOf}
 use Rattle.cartridge.specs.Load.{badPrg, oddCounts, needed, isHeaders, couldLoad, firstOf, verdictOn, verdict, mapperType, cartridgeOf, loadedAs}
 use Rattle.cartridge.specs.declared.Cartridge.{Cartridge}
@@ -23,144 +23,170 @@ use Rattle.cartridge.specs.declared.MapperType.{MapperType}
 use Rattle.cartridge.specs.declared.MapperType.the-variants.{Nrom, Mmc1, Uxrom, Cnrom, Mmc3}
 use Rattle.cartridge.specs.declared.Verdict.{Verdict}
 use Rattle.cartridge.specs.declared.Verdict.the-variants.{Take, Refuse}
-use Rattle.places.specs.declared.Place.{Place}
-use Rattle.places.specs.declared.Place.the-variants.{Prg, Chr, PrgRam, ChrRam, Zero, Refused}
 use Rattle.uxrom.specs.Uxrom as uxrom
 use Rattle.cnrom.specs.Cnrom as cnrom
 use Rattle.cnrom.specs.declared.Cnrom as cnrom-type
 use Rattle.mmc1.specs.Write as mmc1-write
 use Rattle.mmc1.specs.Range as mmc1
-use Rattle.mmc1.specs.declared.Mmc1 as mmc1-type
 use Rattle.mmc3.specs.Write as mmc3-write
+use Rattle.mmc3.specs.Clock as mmc3-clock
 use Rattle.mmc3.specs.Read as mmc3-read
 use Rattle.mmc3.specs.Range as mmc3
-use Rattle.boards.specs.Start.{mmc1Start, startOf, loadedBoard}
-use Rattle.boards.specs.Range.{registersIn, registersFit, screensFit, mirroringFits, inRange, isLoaded}
-use Rattle.boards.specs.Write.{quiet, nextMirroring, turned, uxromWritten, cnromWritten, mmc1Written, mmc3Written, movedOn, moved, writtenAs, landing}
-use Rattle.boards.specs.Clock.{mmc3Ticked, unmoved, tickedOn, ticked, clock}
+use Rattle.boards.specs.Registers.{withMmc3, mmc1Start, start, partFits, fits, moved, ticked}
+use Rattle.boards.specs.Start.{startOf, loadedBoard}
+use Rattle.boards.specs.Range.{turnedFit, screensFit, mirroringFits, inRange, isLoaded}
+use Rattle.boards.specs.Write.{nextMirroring, turned, acceptedWrite, landing}
+use Rattle.boards.specs.Clock.{acceptedClock, clock}
 use Rattle.boards.specs.Runs.{Call, next, after}
 use Rattle.boards.specs.Runs.Call.{read, write, clock as tick}
 use Rattle.boards.specs.declared.Board.{Board}
+use Rattle.boards.specs.declared.Registers.{Registers}
+use Rattle.boards.specs.declared.Ticked.{Ticked}
 use Rattle.boards.specs.declared.Clocked.{Clocked}
 use Rattle.boards.specs.declared.LoadAnswer.the-variants.{Accepted}
-use Rattle.laws.proofs.Cases.{either}
+use Rattle.laws.specs.Loads.{accepts}
+use Rattle.laws.proofs.Cases.{either, by-test}
+use Rattle.laws.proofs.Accepting.{after-write}
 use Rattle.laws.proofs.Mmc1Ranges as mmc1-ranges
 use Rattle.laws.proofs.Mmc3Ranges as mmc3-ranges
 
 join : {x y : Bool} → x ≡ true → y ≡ true → (x && y) ≡ true
 join {x} {y} e f = and-both x y e f
 
--- the three parts of the range of a board whose mapper is known
-record Parts (b : Board) (k : MapperType) : Type 0 where
-  could : couldLoad (b .cart) ≡ true
-  regs : registersIn k b ≡ true
-  screens : screensFit (b .cart .mode) k (same (b .mirroring) (b .cart .mirroring)) (isHeaders (b .mirroring)) ≡ true
+-- registers are in range part by part
+abbrev Parts : MapperType → Registers → Type 0
+Parts k r =
+    (partFits k Uxrom true (uxrom.isStart (r .uxrom)) ≡ true)
+    × (partFits k Cnrom (cnrom.fits (r .cnrom)) (cnrom.isStart (r .cnrom)) ≡ true)
+    × (partFits k Mmc1 (mmc1.fits (r .mmc1)) (mmc1.isUnused (r .mmc1)) ≡ true)
+    × (partFits k Mmc3 (mmc3.fits (r .mmc3)) (mmc3.isStart (r .mmc3)) ≡ true)
 
-parts : (b : Board) (k : MapperType) → b .cart .mapper ≡ k → inRange b ≡ true → Parts b k
-unfolding inRange registersFit mirroringFits
-parts b k e h =
-    let p = split-3 (couldLoad (b .cart)) (registersFit b) (mirroringFits b) h in
-    record {
-      could = p .0;
-      regs = subst (λ (x : MapperType). registersIn x b ≡ true) e (p .1);
-      screens = subst (λ (x : MapperType). screensFit (b .cart .mode) x (same (b .mirroring) (b .cart .mirroring)) (isHeaders (b .mirroring)) ≡ true) e (p .2);
-    }
+parts : (k : MapperType) (r : Registers) → fits k r ≡ true → Parts k r
+unfolding fits
+parts k r h =
+    split-4
+    (partFits k Uxrom true (uxrom.isStart (r .uxrom)))
+    (partFits k Cnrom (cnrom.fits (r .cnrom)) (cnrom.isStart (r .cnrom)))
+    (partFits k Mmc1 (mmc1.fits (r .mmc1)) (mmc1.isUnused (r .mmc1)))
+    (partFits k Mmc3 (mmc3.fits (r .mmc3)) (mmc3.isStart (r .mmc3)))
+    h
 
-whole : (b : Board) (k : MapperType) → b .cart .mapper ≡ k → Parts b k → inRange b ≡ true
-unfolding inRange registersFit mirroringFits
-whole b k e p =
-    join
-    (join (p .could) (subst⁻¹ (λ (x : MapperType). registersIn x b ≡ true) e (p .regs)))
-    (subst⁻¹ (λ (x : MapperType). screensFit (b .cart .mode) x (same (b .mirroring) (b .cart .mirroring)) (isHeaders (b .mirroring)) ≡ true) e (p .screens))
+whole : (k : MapperType) (r : Registers) → Parts k r → fits k r ≡ true
+unfolding fits
+whole k r p = join (join (join (p .0) (p .1)) (p .2)) (p .3)
 
 cnrom-fits : (u : cnrom-type.Cnrom) (v a : ℕ) → cnrom.fits u ≡ true → cnrom.fits (cnrom.written u v a) ≡ true
 unfolding cnrom.written
 cnrom-fits u v a e = either (λ w. cnrom.fits w ≡ true) (ltb a 0x8000) e (lt-ltb (v % 4) 4 (omega arith))
 
--- the mirroring after what a write asks: house mode keeps it, and on the real board MMC1 may choose any
-turns-mmc1 : (mode : Mode) (now header : Mirroring) (t : Mirrors) → screensFit mode Mmc1 (same now header) (isHeaders now) ≡ true
-    → screensFit mode Mmc1 (same (nextMirroring mode now t) header) (isHeaders (nextMirroring mode now t)) ≡ true
-unfolding screensFit nextMirroring
-turns-mmc1 House now header t h = h
-turns-mmc1 OnBoard now header t h = refl
+-- a write moves the part of its board, and that stays in its range
+moved-fits : (k : MapperType) (mode : Mode) (r : Registers) (v a : ℕ) → fits k r ≡ true → fits k (moved k mode r v a .registers) ≡ true
+unfolding moved partFits isMapper
+moved-fits Nrom mode r v a h = h
+moved-fits Uxrom mode r v a h = let p = parts Uxrom r h in whole Uxrom (moved Uxrom mode r v a .registers) (refl, p .1, p .2, p .3)
+moved-fits Cnrom mode r v a h =
+    let p = parts Cnrom r h in
+    whole Cnrom (moved Cnrom mode r v a .registers) (p .0, cnrom-fits (r .cnrom) v a (p .1), p .2, p .3)
+moved-fits Mmc1 mode r v a h =
+    let p = parts Mmc1 r h in
+    whole Mmc1 (moved Mmc1 mode r v a .registers) (p .0, p .1, mmc1-ranges.written-fits mode (r .mmc1) v a (p .2), p .3)
+moved-fits Mmc3 mode r v a h =
+    let p = parts Mmc3 r h in
+    whole Mmc3 (moved Mmc3 mode r v a .registers) (p .0, p .1, p .2, mmc3-ranges.written-fits (r .mmc3) v a (p .3))
 
-turns-mmc3 : (mode : Mode) (now header : Mirroring) (t : Mirrors) → mmc3-ranges.headed t ≡ true → screensFit mode Mmc3 (same now header) (isHeaders now) ≡ true
-    → screensFit mode Mmc3 (same (nextMirroring mode now t) header) (isHeaders (nextMirroring mode now t)) ≡ true
-unfolding screensFit nextMirroring
-turns-mmc3 House now header t d h = h
-turns-mmc3 OnBoard now header AsBefore d h = h
-turns-mmc3 OnBoard now header (As m) d h = d
+-- what keeps a range keeps it where the part is the board's own
+own-part : (own x y x′ y′ : Bool) → own ≡ true → (x ≡ true → x′ ≡ true) → cond own x y ≡ true → cond own x′ y′ ≡ true
+own-part true x y x′ y′ o f h = f h
+own-part false x y x′ y′ o f h = absurd (false≢true o)
 
-module _ (b : Board) (v a : ℕ) where
-  moved-in : (k : MapperType) → b .cart .mapper ≡ k → inRange b ≡ true → inRange (movedOn k b v a .board) ≡ true
-  unfolding movedOn quiet uxromWritten cnromWritten mmc1Written mmc3Written turned registersIn
-  moved-in Nrom e h = h
-  moved-in Uxrom e h =
-      let p = parts b Uxrom e h in
-      whole (movedOn Uxrom b v a .board) Uxrom e (record { could = p .could; regs = p .regs; screens = p .screens })
-  moved-in Cnrom e h =
-      let p = parts b Cnrom e h in
-      let q = split-4 (uxrom.isStart (b .uxrom)) (cnrom.fits (b .cnrom)) (mmc1.isUnused (b .mmc1)) (mmc3.isStart (b .mmc3)) (p .regs) in
-      whole (movedOn Cnrom b v a .board) Cnrom e
-      (record { could = p .could; regs = join (join (join (q .0) (cnrom-fits (b .cnrom) v a (q .1))) (q .2)) (q .3); screens = p .screens })
-  moved-in Mmc1 e h =
-      let p = parts b Mmc1 e h in
-      let q = split-4 (uxrom.isStart (b .uxrom)) (cnrom.isStart (b .cnrom)) (mmc1.fits (b .mmc1)) (mmc3.isStart (b .mmc3)) (p .regs) in
-      let w = mmc1-write.written (b .cart .mode) (b .mmc1) v a in
-      whole (movedOn Mmc1 b v a .board) Mmc1 e
-      (record {
-        could = p .could;
-        regs = join (join (join (q .0) (q .1)) (mmc1-ranges.written-fits (b .cart .mode) (b .mmc1) v a (q .2))) (q .3);
-        screens = turns-mmc1 (b .cart .mode) (b .mirroring) (b .cart .mirroring) (w .mirrors) (p .screens);
-      })
-  moved-in Mmc3 e h =
-      let p = parts b Mmc3 e h in
-      let q = split-4 (uxrom.isStart (b .uxrom)) (cnrom.isStart (b .cnrom)) (mmc1.isUnused (b .mmc1)) (mmc3.fits (b .mmc3)) (p .regs) in
-      let w = mmc3-write.written (b .mmc3) v a in
-      whole (movedOn Mmc3 b v a .board) Mmc3 e
-      (record {
-        could = p .could;
-        regs = join (join (join (q .0) (q .1)) (q .2)) (mmc3-ranges.written-fits (b .mmc3) v a (q .3));
-        screens = turns-mmc3 (b .cart .mode) (b .mirroring) (b .cart .mirroring) (w .mirrors) (mmc3-ranges.written-headed (b .mmc3) v a) (p .screens);
-      })
+-- and so does a clock
+ticked-fits : (k : MapperType) (mode : Mode) (r : Registers) → fits k r ≡ true → fits k (ticked k mode r .registers) ≡ true
+unfolding ticked partFits
+ticked-fits k mode r h =
+    let p = parts k r h in
+    let m = mmc3-clock.clocked mode (r .mmc3) .mmc3 in
+    by-test (λ (t : Ticked). fits k (t .registers) ≡ true) (isMapper k Mmc3)
+    (λ own. whole k (withMmc3 r m)
+    (p .0, p .1, p .2, own-part (isMapper k Mmc3) (mmc3.fits (r .mmc3)) (mmc3.isStart (r .mmc3)) (mmc3.fits m) (mmc3.isStart m) own (mmc3-ranges.clocked-fits mode (r .mmc3)) (p .3)))
+    (λ other. h)
 
-  -- a refused write leaves the board, any other moves it
-  written-in : (p : Place) → inRange b ≡ true → inRange (writtenAs b p v a .board) ≡ true
-  unfolding writtenAs moved
-  written-in (Refused why) h = h
-  written-in (Prg i) h = moved-in (b .cart .mapper) refl h
-  written-in (Chr i) h = moved-in (b .cart .mapper) refl h
-  written-in (PrgRam i) h = moved-in (b .cart .mapper) refl h
-  written-in (ChrRam i) h = moved-in (b .cart .mapper) refl h
-  written-in Zero h = moved-in (b .cart .mapper) refl h
+-- what a board may ask of its screens: any of the four on MMC1, the header's two on MMC3, nothing elsewhere
+mayAsk : MapperType → Mirrors → Bool
+mayAsk k AsBefore = true
+mayAsk k (As m) = turnedFit k false (isHeaders m)
 
-ticked-in : (b : Board) (k : MapperType) → b .cart .mapper ≡ k → inRange b ≡ true → inRange (tickedOn k b .board) ≡ true
-unfolding tickedOn unmoved mmc3Ticked registersIn
-ticked-in b Nrom e h = h
-ticked-in b Mmc1 e h = h
-ticked-in b Uxrom e h = h
-ticked-in b Cnrom e h = h
-ticked-in b Mmc3 e h =
-    let p = parts b Mmc3 e h in
-    let q = split-4 (uxrom.isStart (b .uxrom)) (cnrom.isStart (b .cnrom)) (mmc1.isUnused (b .mmc1)) (mmc3.fits (b .mmc3)) (p .regs) in
-    whole (tickedOn Mmc3 b .board) Mmc3 e
-    (record { could = p .could; regs = join (join (join (q .0) (q .1)) (q .2)) (mmc3-ranges.clocked-fits (b .cart .mode) (b .mmc3) (q .3)); screens = p .screens })
+any-asked : (t : Mirrors) → mayAsk Mmc1 t ≡ true
+unfolding mayAsk turnedFit isMapper
+any-asked AsBefore = refl
+any-asked (As m) = refl
+
+headers-asked : (t : Mirrors) → mmc3-ranges.headed t ≡ true → mayAsk Mmc3 t ≡ true
+unfolding mayAsk turnedFit isMapper
+headers-asked AsBefore h = refl
+headers-asked (As m) h = h
+
+moved-asks : (k : MapperType) (mode : Mode) (r : Registers) (v a : ℕ) → mayAsk k (moved k mode r v a .mirrors) ≡ true
+unfolding moved mayAsk
+moved-asks Nrom mode r v a = refl
+moved-asks Uxrom mode r v a = refl
+moved-asks Cnrom mode r v a = refl
+moved-asks Mmc1 mode r v a = any-asked (mmc1-write.written mode (r .mmc1) v a .mirrors)
+moved-asks Mmc3 mode r v a = headers-asked (mmc3-write.written (r .mmc3) v a .mirrors) (mmc3-ranges.written-headed (r .mmc3) v a)
+
+-- screens that a board may ask for fit, whatever the header says
+asked-fits : (k : MapperType) (same headers : Bool) → turnedFit k false headers ≡ true → turnedFit k same headers ≡ true
+unfolding turnedFit
+asked-fits k same headers = go (isMapper k Mmc1) (isMapper k Mmc3)
+  where
+    go : (x y : Bool) → cond x true (cond y headers false) ≡ true → cond x true (cond y headers same) ≡ true
+    go true y e = refl
+    go false true e = e
+    go false false e = absurd (false≢true e)
+
+turns : (mode : Mode) (k : MapperType) (now header : Mirroring) (t : Mirrors) → mayAsk k t ≡ true → screensFit mode k (same now header) (isHeaders now) ≡ true
+    → screensFit mode k (same (nextMirroring mode now t) header) (isHeaders (nextMirroring mode now t)) ≡ true
+unfolding screensFit nextMirroring mayAsk
+turns House k now header t e h = h
+turns OnBoard k now header AsBefore e h = h
+turns OnBoard k now header (As m) e h = asked-fits k (same m header) (isHeaders m) e
+
+-- the three parts of a board's range
+three : (b : Board) → inRange b ≡ true → (couldLoad (b .cart) ≡ true) × (fits (b .cart .mapper) (b .registers) ≡ true) × (mirroringFits b ≡ true)
+unfolding inRange
+three b h = split-3 (couldLoad (b .cart)) (fits (b .cart .mapper) (b .registers)) (mirroringFits b) h
+
+write-in : (b : Board) (v a : ℕ) → inRange b ≡ true → inRange (acceptedWrite b v a .board) ≡ true
+unfolding acceptedWrite turned inRange mirroringFits
+write-in b v a h =
+    let p = three b h in
+    let c = b .cart in
+    join (join (p .0) (moved-fits (c .mapper) (c .mode) (b .registers) v a (p .1)))
+    (turns (c .mode) (c .mapper) (b .mirroring) (c .mirroring) (moved (c .mapper) (c .mode) (b .registers) v a .mirrors)
+    (moved-asks (c .mapper) (c .mode) (b .registers) v a) (p .2))
+
+clock-in : (b : Board) → inRange b ≡ true → inRange (acceptedClock b .board) ≡ true
+unfolding acceptedClock inRange mirroringFits
+clock-in b h =
+    let p = three b h in
+    join (join (p .0) (ticked-fits (b .cart .mapper) (b .cart .mode) (b .registers) (p .1))) (p .2)
+
+-- what an accepted write and an accepted clock keep, every call keeps
+every-call : (P : Board → Type 0) (b : Board) → ((v a : ℕ) → P (acceptedWrite b v a .board)) → P (acceptedClock b .board) → P b → (c : Call) → P (next b c)
+unfolding next clock
+every-call P b moves ticks stays (read l a) = stays
+every-call P b moves ticks stays (write l a v) =
+    subst⁻¹ P (after-write b (landing b (l .image) (l .prg) (l .chr) a) v a) (either P (accepts b l a) (moves v a) stays)
+every-call P b moves ticks stays tick = either (λ (r : Clocked). P (r .board)) (inRange b) ticks stays
 
 -- the board after any call
 pub next-in-range : (b : Board) (c : Call) → inRange b ≡ true → inRange (next b c) ≡ true
-unfolding next clock unmoved ticked
-next-in-range b (read l a) h = h
-next-in-range b (write l a v) h = written-in b v a (landing b (l .image) (l .prg) (l .chr) a) h
-next-in-range b tick h = either (λ (r : Clocked). inRange (r .board) ≡ true) (inRange b) (ticked-in b (b .cart .mapper) refl h) h
+next-in-range b c h = every-call (λ (x : Board). inRange x ≡ true) b (λ v a. write-in b v a h) (clock-in b h) h c
 
 -- and after any list of calls
 pub run-in-range : (b : Board) (cs : List Call) → inRange b ≡ true → inRange (after b cs) ≡ true
 unfolding after
 run-in-range b [] h = h
 run-in-range b (c ∷ cs) h = run-in-range (next b c) cs (next-in-range b c h)
-
-abbrev startWith : Cartridge → mmc1-type.Mmc1 → Board
-startWith c m = record { cart = c; mirroring = c .mirroring; uxrom = uxrom.start; cnrom = cnrom.start; mmc1 = m; mmc3 = mmc3.start }
 
 -- an accepted load found none of its refusals
 taken : (b9 b3 b4 b5 b6 b7 b8 : Bool) → firstOf b9 b3 b4 b5 b6 b7 b8 ≡ Take → (b4 ≡ false) × (b6 ≡ false) × (b7 ≡ false) × (b8 ≡ false)
@@ -206,22 +232,22 @@ unfolding same
 same-self m = eq-eqb (mirroringLetter m) (mirroringLetter m) refl
 
 -- the start values of every mapper
-start-regs : (c : Cartridge) (k : MapperType) → registersIn k (startWith c (mmc1Start k)) ≡ true
-unfolding registersIn mmc1Start mmc1.isUnused mmc1.fits mmc1.serialFits mmc1.regsFits mmc3.start mmc3.isStart mmc3.irqIsStart mmc3.fits mmc3-read.register
-start-regs c Nrom = refl
-start-regs c Mmc1 = refl
-start-regs c Uxrom = refl
-start-regs c Cnrom = refl
-start-regs c Mmc3 = refl
+start-fits : (k : MapperType) → fits k (start k) ≡ true
+unfolding start mmc1Start partFits mmc1.isUnused mmc1.fits mmc1.serialFits mmc1.regsFits mmc3.start mmc3.isStart mmc3.irqIsStart mmc3.fits mmc3-read.register
+start-fits k = whole k (start k) (holds (isMapper k Uxrom) refl refl, holds (isMapper k Cnrom) refl refl, of-mmc1 (isMapper k Mmc1), holds (isMapper k Mmc3) refl refl)
+  where
+    holds : (t : Bool) {x y : Bool} → x ≡ true → y ≡ true → cond t x y ≡ true
+    holds t e f = either (λ (z : Bool). z ≡ true) t e f
+
+    of-mmc1 : (t : Bool) → cond t (mmc1.fits (cond t mmc1.start mmc1.unused)) (mmc1.isUnused (cond t mmc1.start mmc1.unused)) ≡ true
+    of-mmc1 true = refl
+    of-mmc1 false = refl
 
 start-screens : (mode : Mode) (k : MapperType) (m : Mirroring) → isHeaders m ≡ true → screensFit mode k (same m m) (isHeaders m) ≡ true
-unfolding screensFit
+unfolding screensFit turnedFit
 start-screens House k m h = same-self m
-start-screens OnBoard Mmc1 m h = refl
-start-screens OnBoard Mmc3 m h = h
-start-screens OnBoard Nrom m h = same-self m
-start-screens OnBoard Uxrom m h = same-self m
-start-screens OnBoard Cnrom m h = same-self m
+start-screens OnBoard k m h =
+    either (λ (t : Bool). t ≡ true) (isMapper k Mmc1) refl (either (λ (t : Bool). t ≡ true) (isMapper k Mmc3) h (same-self m))
 
 headers : (c : Cartridge) → couldLoad c ≡ true → isHeaders (c .mirroring) ≡ true
 unfolding couldLoad
@@ -233,10 +259,8 @@ headers c h =
 
 -- the board that such a cartridge starts with
 pub start-in-range : (c : Cartridge) → couldLoad c ≡ true → inRange (startOf c) ≡ true
-unfolding startOf
-start-in-range c h =
-    whole (startOf c) (c .mapper) refl
-    (record { could = h; regs = start-regs c (c .mapper); screens = start-screens (c .mode) (c .mapper) (c .mirroring) (headers c h) })
+unfolding startOf inRange mirroringFits
+start-in-range c h = join (join h (start-fits (c .mapper))) (start-screens (c .mode) (c .mapper) (c .mirroring) (headers c h))
 
 -- the board that an accepted load gives, of any image of bytes
 pub load-in-range : (s : List ℕ) (mode : Mode) (p c : ℕ) → byte s 4 < 256 → byte s 5 < 256 → verdict s mode p c ≡ Take
@@ -244,36 +268,9 @@ pub load-in-range : (s : List ℕ) (mode : Mode) (p c : ℕ) → byte s 4 < 256 
 load-in-range s mode p c h4 h5 e = start-in-range (cartridgeOf (headerOf s) mode (length s)) (could-load s mode p c h4 h5 e)
 
 -- no call changes what was loaded
-kept-on : (k : MapperType) (b : Board) (v a : ℕ) → movedOn k b v a .board .cart ≡ b .cart
-unfolding movedOn quiet uxromWritten cnromWritten mmc1Written mmc3Written turned
-kept-on Nrom b v a = refl
-kept-on Mmc1 b v a = refl
-kept-on Uxrom b v a = refl
-kept-on Cnrom b v a = refl
-kept-on Mmc3 b v a = refl
-
-kept-as : (p : Place) (b : Board) (v a : ℕ) → writtenAs b p v a .board .cart ≡ b .cart
-unfolding writtenAs moved
-kept-as (Refused why) b v a = refl
-kept-as (Prg i) b v a = kept-on (b .cart .mapper) b v a
-kept-as (Chr i) b v a = kept-on (b .cart .mapper) b v a
-kept-as (PrgRam i) b v a = kept-on (b .cart .mapper) b v a
-kept-as (ChrRam i) b v a = kept-on (b .cart .mapper) b v a
-kept-as Zero b v a = kept-on (b .cart .mapper) b v a
-
-ticked-as : (k : MapperType) (b : Board) → tickedOn k b .board .cart ≡ b .cart
-unfolding tickedOn unmoved mmc3Ticked
-ticked-as Nrom b = refl
-ticked-as Mmc1 b = refl
-ticked-as Uxrom b = refl
-ticked-as Cnrom b = refl
-ticked-as Mmc3 b = refl
-
 pub next-keeps-cart : (b : Board) (c : Call) → next b c .cart ≡ b .cart
-unfolding next clock unmoved ticked
-next-keeps-cart b (read l a) = refl
-next-keeps-cart b (write l a v) = kept-as (landing b (l .image) (l .prg) (l .chr) a) b v a
-next-keeps-cart b tick = either (λ (r : Clocked). r .board .cart ≡ b .cart) (inRange b) (ticked-as (b .cart .mapper) b) refl
+unfolding acceptedWrite turned acceptedClock
+next-keeps-cart b c = every-call (λ (x : Board). x .cart ≡ b .cart) b (λ v a. refl) refl refl c
 
 pub run-keeps-cart : (b : Board) (cs : List Call) → after b cs .cart ≡ b .cart
 unfolding after

@@ -2,48 +2,49 @@
 -- and so does a CHR 1 load in 4 KB mode, and a PRG load always; what is one stays one under the same moves. Assumes nothing.
 use Prim.Native.Nat.{ℕ, zero, suc, _+_, _≤_}
 use mathlib.Core.Path.{_≡_, refl, sym, ap, ap₂, _∙_, subst, subst⁻¹}
-use mathlib.Core.Bool.{Bool, true, false, cond, not, _&&_}
+use mathlib.Core.Bool.{true, cond, _&&_}
 use mathlib.Core.List.{List, [], _∷_}
 use native.Mathlib.Numerals.{add-one}
 use native.Mathlib.Omega.{arith}
 use lib.Dec.{ltb, eqb}
 use lib.ListN.{take}
-use borrow.Author.Tests.{ltb-false, le-ltb, not-true, eqb-true}
-use Rattle.rules.proofs.Bools.{and-left, and-right, split-3}
+use borrow.Author.Tests.{ltb-false, le-ltb, eqb-true}
+use Rattle.rules.proofs.Bools.{split-3}
 use Rattle.common.specs.Common.{isSigned}
 use Rattle.common.specs.declared.Mode.{Mode}
 use Rattle.common.specs.declared.Mode.the-variants.{House, Board as OnBoard}
-use Rattle.cartridge.specs.Answers.{same, mirroringLetter}
+use Rattle.cartridge.specs.Answers.{same, mirroringLetter, isMapper}
 use Rattle.cartridge.specs.Load.{couldLoad, isHeaders}
 use Rattle.cartridge.specs.declared.Cartridge.{Cartridge}
 use Rattle.cartridge.specs.declared.Mirroring.{Mirroring}
 use Rattle.cartridge.specs.declared.Mirroring.the-variants.{Horizontal, Vertical, SingleScreenUpper, SingleScreenLower}
-use Rattle.cartridge.specs.declared.MapperType.{MapperType}
 use Rattle.cartridge.specs.declared.MapperType.the-variants.{Mmc1}
-use Rattle.mmc1.specs.Write.{shifted, empty, registerAt, mirrorsOf}
+use Rattle.mmc1.specs.Write.{empty, moveOf, storedChr0, storedChr1, load, applied, mirrorsOf}
+use Rattle.mmc1.specs.declared.Mmc1 as mmc1-type
+use Rattle.mmc1.specs.declared.Move.{Move}
+use Rattle.mmc1.specs.declared.Move.the-variants.{Fill, Clear}
 use Rattle.mmc1.specs.declared.Register.{Register}
 use Rattle.mmc1.specs.declared.Register.the-variants.{Control, Chr0, Chr1, Prg}
 use Rattle.mmc1.specs.declared.Serial.{Serial}
-use Rattle.boards.specs.Range.{inRange, screensFit, mirroringFits, registersFit}
+use Rattle.boards.specs.Registers.{fits}
+use Rattle.boards.specs.Range.{inRange, screensFit, mirroringFits}
 use Rattle.boards.specs.Write.{nextMirroring}
 use Rattle.boards.specs.Runs.{Call, next, after}
 use Rattle.boards.specs.Runs.Call.{read, write, clock as tick}
 use Rattle.boards.specs.declared.Board.{Board}
 use Rattle.laws.specs.Calls.{OneImage, Write, SameCalls}
-use Rattle.laws.specs.Loads.{isMmc1, accepts, isSerial, completes, loads}
-use Rattle.laws.specs.Loads.Done.{load}
-use Rattle.laws.specs.SettlesMmc1.{Clears, cleared, doneAt, isSerialWrite, serialWrites, Settled, Agree, Settles}
-use Rattle.laws.proofs.Positions.{same-after, same-loads, Kept, Makes, Any, once, twice}
+use Rattle.laws.specs.Loads.{accepts, made, moves}
+use Rattle.laws.specs.SettlesMmc1.{Clears, cleared, moveAt, isSerial, serialWrites, Settled, Agree, Settles}
+use Rattle.laws.proofs.Cases.{either, by-test}
+use Rattle.laws.proofs.Positions.{same-after, same-moves, Kept, Makes, Any, once, twice}
 use Rattle.laws.proofs.Ranges.{next-in-range, next-keeps-cart, run-in-range, run-keeps-cart}
-use Rattle.laws.proofs.Mmc1Moves.{Move, no-load, chosen, filled, move, serialAfter, prgModeAfter, chrModeAfter, chr0Stored, chr1Stored, chr0After, chr1After, bankAfter, asks, boardAfter, next-is, done, completes-is, Common, by-move, next-common, one-done}
-use Rattle.laws.proofs.Mmc1Moves.Move.{stay, clear, enter, fill}
+use Rattle.laws.proofs.Mmc1Moves.{boardAfter, own-move, next-is, no-load, chosen, one-prgmode, one-chrmode, one-chr0, one-chr1, one-prg, Common, one-move, by-move, next-common}
 use Rattle.laws.proofs.Mmc1Answers.{Alike, answers-alike, played-alike, left-alike}
 
--- the same moves complete the same loads
-one-loads : {b d : Board} → Common b d → (cs : List Call) → loads b cs ≡ loads d cs
-unfolding loads
-one-loads r [] = refl
-one-loads r (c ∷ cs) = ap₂ _∷_ (one-done r c) (one-loads (next-common r c) cs)
+one-moves : {b d : Board} → Common b d → (cs : List Call) → moves b cs ≡ moves d cs
+unfolding moves
+one-moves r [] = refl
+one-moves r (c ∷ cs) = ap₂ _∷_ (one-move r c) (one-moves (next-common r c) cs)
 
 -- a mirroring is known by its letter
 named : ℕ → Mirroring
@@ -66,26 +67,26 @@ unfolding inRange mirroringFits screensFit
 house-screens b h e =
     same-is (b .mirroring) (b .cart .mirroring)
     (subst (λ (m : Mode). screensFit m (b .cart .mapper) (same (b .mirroring) (b .cart .mirroring)) (isHeaders (b .mirroring)) ≡ true) e
-    (split-3 (couldLoad (b .cart)) (registersFit b) (mirroringFits b) h .2))
+    (split-3 (couldLoad (b .cart)) (fits (b .cart .mapper) (b .registers)) (mirroringFits b) h .2))
 
 -- what a control load makes one, and then CHR 0, CHR 1 and PRG loads
 record Modes (b d : Board) : Type 0 where
   common : Common b d
-  prgmode : b .mmc1 .regs .prgmode ≡ d .mmc1 .regs .prgmode
-  chrmode : b .mmc1 .regs .chrmode ≡ d .mmc1 .regs .chrmode
+  prgmode : b .registers .mmc1 .regs .prgmode ≡ d .registers .mmc1 .regs .prgmode
+  chrmode : b .registers .mmc1 .regs .chrmode ≡ d .registers .mmc1 .regs .chrmode
   mirroring : b .mirroring ≡ d .mirroring
 
 record First (b d : Board) : Type 0 where
   modes : Modes b d
-  chr0 : b .mmc1 .regs .chr0 ≡ d .mmc1 .regs .chr0
+  chr0 : b .registers .mmc1 .regs .chr0 ≡ d .registers .mmc1 .regs .chr0
 
 record Second (b d : Board) : Type 0 where
   modes : Modes b d
-  chr1 : b .mmc1 .regs .chr1 ≡ d .mmc1 .regs .chr1
+  chr1 : b .registers .mmc1 .regs .chr1 ≡ d .registers .mmc1 .regs .chr1
 
 record Program (b d : Board) : Type 0 where
   common : Common b d
-  prg : b .mmc1 .regs .prg ≡ d .mmc1 .regs .prg
+  prg : b .registers .mmc1 .regs .prg ≡ d .registers .mmc1 .regs .prg
 
 -- one move keeps each of them
 keep-common : Kept Common
@@ -93,13 +94,15 @@ keep-common b d r c = next-common r c
 
 keep-modes : Kept Modes
 keep-modes b d r c =
-    let k = move b c in
+    let k = made b c in
     let m = b .cart .mode in
+    let x = b .registers .mmc1 in
+    let y = d .registers .mmc1 in
     record {
       common = next-common (r .common) c;
-      prgmode = by-move (r .common) (λ (x y : Board). x .mmc1 .regs .prgmode ≡ y .mmc1 .regs .prgmode) c (ap (prgModeAfter k m) (r .prgmode));
-      chrmode = by-move (r .common) (λ (x y : Board). x .mmc1 .regs .chrmode ≡ y .mmc1 .regs .chrmode) c (ap (chrModeAfter k) (r .chrmode));
-      mirroring = by-move (r .common) (λ (x y : Board). x .mirroring ≡ y .mirroring) c (ap (λ (s : Mirroring). nextMirroring m s (asks k)) (r .mirroring));
+      prgmode = by-move (r .common) (λ (x y : Board). x .registers .mmc1 .regs .prgmode ≡ y .registers .mmc1 .regs .prgmode) c (one-prgmode x y m k (r .prgmode));
+      chrmode = by-move (r .common) (λ (x y : Board). x .registers .mmc1 .regs .chrmode ≡ y .registers .mmc1 .regs .chrmode) c (one-chrmode x y m k (r .chrmode));
+      mirroring = by-move (r .common) (λ (x y : Board). x .mirroring ≡ y .mirroring) c (ap (λ (s : Mirroring). nextMirroring m s (mirrorsOf k)) (r .mirroring));
     }
 
 keep-first : Kept First
@@ -107,8 +110,8 @@ keep-first b d r c =
     record {
       modes = keep-modes b d (r .modes) c;
       chr0 =
-          by-move (r .modes .common) (λ (x y : Board). x .mmc1 .regs .chr0 ≡ y .mmc1 .regs .chr0) c
-          (ap₂ (chr0After (move b c) (b .cart .mode)) (r .modes .chrmode) (r .chr0));
+          by-move (r .modes .common) (λ (x y : Board). x .registers .mmc1 .regs .chr0 ≡ y .registers .mmc1 .regs .chr0) c
+          (one-chr0 (b .registers .mmc1) (d .registers .mmc1) (b .cart .mode) (made b c) (r .modes .chrmode) (r .chr0));
     }
 
 keep-second : Kept Second
@@ -116,26 +119,26 @@ keep-second b d r c =
     record {
       modes = keep-modes b d (r .modes) c;
       chr1 =
-          by-move (r .modes .common) (λ (x y : Board). x .mmc1 .regs .chr1 ≡ y .mmc1 .regs .chr1) c
-          (ap₂ (chr1After (move b c) (b .cart .mode)) (r .modes .chrmode) (r .chr1));
+          by-move (r .modes .common) (λ (x y : Board). x .registers .mmc1 .regs .chr1 ≡ y .registers .mmc1 .regs .chr1) c
+          (one-chr1 (b .registers .mmc1) (d .registers .mmc1) (b .cart .mode) (made b c) (r .modes .chrmode) (r .chr1));
     }
 
 keep-program : Kept Program
 keep-program b d r c =
     record {
       common = next-common (r .common) c;
-      prg = by-move (r .common) (λ (x y : Board). x .mmc1 .regs .prg ≡ y .mmc1 .regs .prg) c (ap (bankAfter (move b c)) (r .prg));
+      prg =
+          by-move (r .common) (λ (x y : Board). x .registers .mmc1 .regs .prg ≡ y .registers .mmc1 .regs .prg) c
+          (one-prg (b .registers .mmc1) (d .registers .mmc1) (b .cart .mode) (made b c) (r .prg));
     }
 
 -- what a load makes of the boards, read off its move
-module _ {b d : Board} (r : Common b d) (w : Register) (c : Call) (v : ℕ) (e : completes b c ≡ load w v) where
-  by-load : (Q : Board → Board → Type 0) → Q (boardAfter (fill w v) (b .cart .mode) b) (boardAfter (fill w v) (b .cart .mode) d) → Q (next b c) (next d c)
-  by-load Q h =
-      by-move r Q c
-      (subst⁻¹ (λ (k : Move). Q (boardAfter k (b .cart .mode) b) (boardAfter k (b .cart .mode) d)) (filled (move b c) w v (sym (completes-is b (r .is-mmc1) c) ∙ e)) h)
+module _ {b d : Board} (r : Common b d) (w : Register) (c : Call) (v : ℕ) (e : made b c ≡ Fill w v) where
+  by-load : (Q : Board → Board → Type 0) → Q (boardAfter (Fill w v) (b .cart .mode) b) (boardAfter (Fill w v) (b .cart .mode) d) → Q (next b c) (next d c)
+  by-load Q h = by-move r Q c (subst⁻¹ (λ (k : Move). Q (boardAfter k (b .cart .mode) b) (boardAfter k (b .cart .mode) d)) e h)
 
 -- a control load on the real board sets the mirroring, and in house mode both boards have the header's
-screens : {b d : Board} → Common b d → (v : ℕ) (m : Mode) → b .cart .mode ≡ m → nextMirroring m (b .mirroring) (mirrorsOf Control v) ≡ nextMirroring m (d .mirroring) (mirrorsOf Control v)
+screens : {b d : Board} → Common b d → (v : ℕ) (m : Mode) → b .cart .mode ≡ m → nextMirroring m (b .mirroring) (mirrorsOf (Fill Control v)) ≡ nextMirroring m (d .mirroring) (mirrorsOf (Fill Control v))
 unfolding nextMirroring mirrorsOf
 screens {b} {d} r v House e =
     house-screens b (r .first) e ∙ ap (λ (c : Cartridge). c .mirroring) (r .cart)
@@ -143,46 +146,51 @@ screens {b} {d} r v House e =
 screens r v OnBoard e = refl
 
 control-makes : Makes Common Any Control Modes
+unfolding applied load
 control-makes b d r x c v e =
     record {
       common = next-common r c;
-      prgmode = by-load r Control c v e (λ (x y : Board). x .mmc1 .regs .prgmode ≡ y .mmc1 .regs .prgmode) refl;
-      chrmode = by-load r Control c v e (λ (x y : Board). x .mmc1 .regs .chrmode ≡ y .mmc1 .regs .chrmode) refl;
+      prgmode = by-load r Control c v e (λ (x y : Board). x .registers .mmc1 .regs .prgmode ≡ y .registers .mmc1 .regs .prgmode) refl;
+      chrmode = by-load r Control c v e (λ (x y : Board). x .registers .mmc1 .regs .chrmode ≡ y .registers .mmc1 .regs .chrmode) refl;
       mirroring = by-load r Control c v e (λ (x y : Board). x .mirroring ≡ y .mirroring) (screens r v (b .cart .mode) refl);
     }
 
 -- CHR 0 is stored by the CHR mode of the moment, which a control load has made one
 chr0-makes : Makes Modes Any Chr0 First
+unfolding applied load
 chr0-makes b d r x c v e =
     record {
       modes = keep-modes b d r c;
       chr0 =
-          by-load (r .common) Chr0 c v e (λ (x y : Board). x .mmc1 .regs .chr0 ≡ y .mmc1 .regs .chr0)
-          (ap (λ (n : ℕ). chr0Stored (b .cart .mode) n v) (r .chrmode));
+          by-load (r .common) Chr0 c v e (λ (x y : Board). x .registers .mmc1 .regs .chr0 ≡ y .registers .mmc1 .regs .chr0)
+          (ap (λ (n : ℕ). storedChr0 (b .cart .mode) n v) (r .chrmode));
     }
 
 -- CHR 1 is stored in 4 KB mode
 abbrev Wide : Board → Type 0
-Wide b = b .mmc1 .regs .chrmode ≡ 1
+Wide b = b .registers .mmc1 .regs .chrmode ≡ 1
 
-wide-stored : (m : Mode) (n v old : ℕ) → n ≡ 1 → chr1Stored m n v old ≡ v
-wide-stored House n v old e = rw e refl
-wide-stored OnBoard n v old e = refl
+wide-stored : (m : Mode) (n old v : ℕ) → n ≡ 1 → storedChr1 m n old v ≡ v
+unfolding storedChr1
+wide-stored House n old v e = rw e refl
+wide-stored OnBoard n old v e = refl
 
 chr1-makes : Makes Modes Wide Chr1 Second
+unfolding applied load
 chr1-makes b d r x c v e =
     let m = b .cart .mode in
     record {
       modes = keep-modes b d r c;
       chr1 =
-          by-load (r .common) Chr1 c v e (λ (x y : Board). x .mmc1 .regs .chr1 ≡ y .mmc1 .regs .chr1)
-          (wide-stored m (b .mmc1 .regs .chrmode) v (b .mmc1 .regs .chr1) x
-          ∙ sym (wide-stored m (d .mmc1 .regs .chrmode) v (d .mmc1 .regs .chr1) (sym (r .chrmode) ∙ x)));
+          by-load (r .common) Chr1 c v e (λ (x y : Board). x .registers .mmc1 .regs .chr1 ≡ y .registers .mmc1 .regs .chr1)
+          (wide-stored m (b .registers .mmc1 .regs .chrmode) (b .registers .mmc1 .regs .chr1) v x
+          ∙ sym (wide-stored m (d .registers .mmc1 .regs .chrmode) (d .registers .mmc1 .regs .chr1) v (sym (r .chrmode) ∙ x)));
     }
 
 prg-makes : Makes Common Any Prg Program
+unfolding applied load
 prg-makes b d r x c v e =
-    record { common = next-common r c; prg = by-load r Prg c v e (λ (x y : Board). x .mmc1 .regs .prg ≡ y .mmc1 .regs .prg) refl }
+    record { common = next-common r c; prg = by-load r Prg c v e (λ (x y : Board). x .registers .mmc1 .regs .prg ≡ y .registers .mmc1 .regs .prg) refl }
 
 -- the four loads make the boards one
 settles : (b d : Board) → Common b d → (cs : List Call) → Settled b cs → Agree (after b cs) (after d cs)
@@ -216,14 +224,16 @@ settles b d r cs s =
     program = once Common Program keep-common keep-program Any Prg prg-makes b d r cs (s .prg) (s .prg-load) tt
 
 -- a bit 7 write clears, so the two serial registers are one
-clear-move : (w : Write) (b : Board) → Clears w b → move b (write (w .lent) (w .address) (w .byte)) ≡ clear
-unfolding move
-clear-move w b p = rw (move, p .accepted, le-ltb (w .address) 0x8000 (p .to-8000-FFFF), p .bit-7) refl
+clear-move : (w : Write) (b : Board) → b .cart .mapper ≡ Mmc1 → Clears w b → made b (write (w .lent) (w .address) (w .byte)) ≡ Clear
+unfolding moveOf
+clear-move w b e p =
+    own-move b e (w .lent) (w .address) (w .byte) ∙ rw (p .accepted, le-ltb (w .address) 0x8000 (p .to-8000-FFFF), p .bit-7) refl
 
-emptied : (w : Write) (b : Board) → b .cart .mapper ≡ Mmc1 → Clears w b → cleared w b .mmc1 .serial ≡ empty
+emptied : (w : Write) (b : Board) → b .cart .mapper ≡ Mmc1 → Clears w b → cleared w b .registers .mmc1 .serial ≡ empty
+unfolding applied
 emptied w b e p =
-    ap (λ (x : Board). x .mmc1 .serial) (next-is b e (write (w .lent) (w .address) (w .byte)))
-    ∙ ap (λ (k : Move). serialAfter k (b .mmc1 .serial)) (clear-move w b p)
+    ap (λ (x : Board). x .registers .mmc1 .serial) (next-is b e (write (w .lent) (w .address) (w .byte)))
+    ∙ ap (λ (k : Move). applied (b .cart .mode) k (b .registers .mmc1) .serial) (clear-move w b e p)
 
 start-common : (b d : Board) → OneImage Mmc1 b d → (w u : Write) → Clears w b → Clears u d → Common (cleared w b) (cleared u d)
 start-common b d one w u p q =
@@ -237,45 +247,51 @@ start-common b d one w u p q =
       serial = emptied w b (one .mapper) p ∙ sym (emptied u d (ap (λ (x : Cartridge). x .mapper) (sym (one .cart)) ∙ one .mapper) q);
     }
 
--- how far a move takes the count of bits
-counts : (p q r s : Bool) (x t : Serial) (w : Register) (v : ℕ) → t .count ≡ x .count + 1
-    → serialAfter (cond p (cond q stay (cond r clear (cond s (enter t) (fill w v)))) stay) x .count ≤ x .count + cond (p && not q && not r) 1 0
-counts false q r s x t w v e = omega arith
-counts true true r s x t w v e = omega arith
-counts true false true s x t w v e = omega arith
-counts true false false true x t w v e = omega arith
-counts true false false false x t w v e = omega arith
+-- a move counts up by one at most, and only as a serial write
+abbrev Counts : Mode → mmc1-type.Mmc1 → Move → Type 0
+Counts m x k = applied m k x .serial .count ≤ x .serial .count + cond (isSerial k) 1 0
 
--- a call counts up by one at most, and only as a serial write
-counted : (b : Board) → b .cart .mapper ≡ Mmc1 → (c : Call) → serialAfter (move b c) (b .mmc1 .serial) .count ≤ b .mmc1 .serial .count + cond (isSerialWrite b c) 1 0
-unfolding move isSerial isMmc1
+counts : (m : Mode) (x : mmc1-type.Mmc1) (v a : ℕ) → Counts m x (moveOf (x .serial) v a)
+unfolding moveOf applied
+counts m x v a =
+    either (Counts m x) (ltb a 0x8000) (omega arith)
+    (either (Counts m x) (isSigned v) (omega arith) (either (Counts m x) (ltb (x .serial .count) 4) (omega arith) (omega arith)))
+
+counted : (b : Board) → b .cart .mapper ≡ Mmc1 → (c : Call) → Counts (b .cart .mode) (b .registers .mmc1) (made b c)
+unfolding made applied
 counted b e (read l a) = omega arith
 counted b e (write l a v) =
-    let s = b .mmc1 .serial in
-    subst⁻¹ (λ (k : MapperType). serialAfter (move b (write l a v)) s .count ≤ s .count + cond (isMmc1 k && accepts b l a && not (ltb a 0x8000) && not (isSigned v)) 1 0) e
-    (counts (accepts b l a) (ltb a 0x8000) (isSigned v) (ltb (s .count) 4) s (record { count = s .count + 1; value = shifted s v }) (registerAt a) (shifted s v) refl)
+    let P = Counts (b .cart .mode) (b .registers .mmc1) in
+    subst⁻¹ P (own-move b e l a v) (either P (accepts b l a) (counts (b .cart .mode) (b .registers .mmc1) v a) (omega arith))
 counted b e tick = omega arith
 
-next-count : (b : Board) → b .cart .mapper ≡ Mmc1 → (c : Call) → next b c .mmc1 .serial .count ≤ b .mmc1 .serial .count + cond (isSerialWrite b c) 1 0
-next-count b e c = subst⁻¹ (λ (x : Board). x .mmc1 .serial .count ≤ b .mmc1 .serial .count + cond (isSerialWrite b c) 1 0) (next-is b e c) (counted b e c)
+next-count : (b : Board) → b .cart .mapper ≡ Mmc1 → (c : Call) → next b c .registers .mmc1 .serial .count ≤ b .registers .mmc1 .serial .count + cond (isSerial (made b c)) 1 0
+next-count b e c = subst⁻¹ (λ (x : Board). x .registers .mmc1 .serial .count ≤ b .registers .mmc1 .serial .count + cond (isSerial (made b c)) 1 0) (next-is b e c) (counted b e c)
 
--- what completes a load is a serial write, and four bits were there
-fifth : (b : Board) (c : Call) (r : Register) (v : ℕ) → completes b c ≡ load r v → (isSerialWrite b c ≡ true) × (4 ≤ b .mmc1 .serial .count)
-unfolding completes
+-- where a register is filled, four bits were there
+full : (s : Serial) (v a : ℕ) (r : Register) (u : ℕ) → moveOf s v a ≡ Fill r u → 4 ≤ s .count
+unfolding moveOf
+full s v a r u =
+    by-test Full (ltb a 0x8000) (λ t e. absurd (no-load r u e))
+    (λ t. by-test Full (isSigned v) (λ t e. absurd (let z : _≡_ {A = ℕ} 0 1 = cc in omega arith))
+    (λ t. by-test Full (ltb (s .count) 4) (λ t e. absurd (let z : _≡_ {A = ℕ} 0 1 = cc in omega arith)) (λ t e. ltb-false (s .count) 4 t)))
+  where
+    Full : Move → Type 0
+    Full k = k ≡ Fill r u → 4 ≤ s .count
+
+fifth : (b : Board) (c : Call) (r : Register) (v : ℕ) → made b c ≡ Fill r v → 4 ≤ b .registers .mmc1 .serial .count
+unfolding made
 fifth b (read l a) r v e = absurd (no-load r v e)
 fifth b (write l a u) r v e =
-    let s = b .mmc1 .serial in
-    let t = chosen (isSerial b l a u && not (ltb (s .count) 4)) (registerAt a) r (shifted s u) v e in
-    (and-left (isSerial b l a u) (not (ltb (s .count) 4)) t, ltb-false (s .count) 4 (not-true (ltb (s .count) 4) (and-right (isSerial b l a u) (not (ltb (s .count) 4)) t)))
+    let s = b .registers .mmc1 .serial in
+    full s u a r v (chosen (isMapper (b .cart .mapper) Mmc1 && accepts b l a) (moveOf s u a) r v e .1)
 fifth b tick r v e = absurd (no-load r v e)
 
-fifth-at : (b : Board) → b .cart .mapper ≡ Mmc1 → (cs : List Call) (i : ℕ) (r : Register) (v : ℕ) → doneAt b cs i ≡ load r v
-    → 5 ≤ b .mmc1 .serial .count + serialWrites b (take (suc i) cs)
-unfolding loads
+fifth-at : (b : Board) → b .cart .mapper ≡ Mmc1 → (cs : List Call) (i : ℕ) (r : Register) (v : ℕ) → moveAt b cs i ≡ Fill r v
+    → 5 ≤ b .registers .mmc1 .serial .count + serialWrites (take (suc i) (moves b cs))
+unfolding moves
 fifth-at b e [] i r v h = absurd (no-load r v h)
-fifth-at b e (c ∷ cs) zero r v h =
-    let f = fifth b c r v h in
-    rw (f .0) (omega (arith, f .1))
+fifth-at b e (c ∷ cs) zero r v h = rw h (omega (arith, fifth b c r v h))
 fifth-at b e (c ∷ cs) (suc i) r v h =
     omega (arith, next-count b e c, fifth-at (next b c) (ap (λ (x : Cartridge). x .mapper) (next-keeps-cart b c) ∙ e) cs i r v h)
 
@@ -284,7 +300,7 @@ pub mmc1-settles : (b d : Board) → OneImage Mmc1 b d → (w u : Write) → Cle
     → Settles (cleared w b) (cleared u d) cs ds
 mmc1-settles b d one w u p q cs ds same-calls =
     record {
-      the-same-loads = one-loads common cs ∙ same-loads (cleared u d) cs ds same-calls;
+      the-same-loads = one-moves common cs ∙ same-moves (cleared u d) cs ds same-calls;
       none-before-the-fifth = λ i r l.
           rw (add-one i)
           (omega (arith, ap (λ (s : Serial). s .count) (emptied w b (one .mapper) p), fifth-at (cleared w b) (common .is-mmc1) cs i r (l .bits) (l .done)));

@@ -11,17 +11,17 @@ use Rattle.cartridge.specs.declared.MapperType.the-variants.{Mmc1}
 use Rattle.cartridge.specs.declared.Mirroring.{Mirroring}
 use Rattle.cartridge.specs.declared.Mirroring.the-variants.{Vertical, SingleScreenUpper}
 use Rattle.cartridge.specs.declared.Refusal.the-variants.{BankPastData}
+use Rattle.mmc1.specs.declared.Move.the-variants.{Fill}
 use Rattle.mmc1.specs.declared.Register.the-variants.{Control, Chr0, Chr1, Prg}
 use Rattle.places.specs.declared.ReadAnswer.the-variants.{Byte, Refused}
-use Rattle.boards.specs.Write.{withMmc1, withMirroring}
+use Rattle.boards.specs.Registers.{withMmc1}
 use Rattle.boards.specs.Runs.{Lent, Call, Answer, after, answers}
 use Rattle.boards.specs.Runs.Call.{read, write, clock}
 use Rattle.boards.specs.Runs.Answer.{toRead}
 use Rattle.boards.specs.declared.Board.{Board}
 use Rattle.laws.specs.Calls.{History, reached, OneImage, Write, SameCalls}
 use Rattle.laws.specs.PLines.{mmc1 as mmc1-image, ram, loadOf}
-use Rattle.laws.specs.Loads.Done.{load}
-use Rattle.laws.specs.SettlesMmc1.{Clears, cleared, doneAt, bit4At, Settled, Agree}
+use Rattle.laws.specs.SettlesMmc1.{Clears, cleared, moveAt, bit4At, Settled, Agree}
 use Rattle.laws.proofs.Histories.{any-two-histories}
 use Rattle.laws.proofs.SettlesMmc1.{mmc1-settles}
 use Rattle.laws.proofs.Opened.{opened}
@@ -44,9 +44,11 @@ turnedTo OnBoard = SingleScreenUpper
 
 abbrev used : Mode → Board
 used mode =
-    withMirroring
-    (withMmc1 (fresh mode) (record { serial = record { count = 3; value = 20 }; regs = record { prgmode = 2; chrmode = 1; chr0 = 3; chr1 = 6; prg = 9 } }))
-    (turnedTo mode)
+    record {
+      cart = fresh mode .cart;
+      mirroring = turnedTo mode;
+      registers = withMmc1 (fresh mode .registers) (record { serial = record { count = 3; value = 20 }; regs = record { prgmode = 2; chrmode = 1; chr0 = 3; chr1 = 6; prg = 9 } });
+    }
 
 -- the bit 7 write, for each with its own buffers
 abbrev bit7 : Lent → Write
@@ -96,7 +98,7 @@ pub met-calls : SameCalls (calls lent) (calls others)
 met-calls = refl
 
 -- a run with its control load at call 12, CHR 0 at 22, CHR 1 at 17 and PRG at 7
-loads-at : {b : Board} {cs : List Call} → doneAt b cs 12 ≡ load Control 16 → doneAt b cs 22 ≡ load Chr0 5 → doneAt b cs 17 ≡ load Chr1 6 → doneAt b cs 7 ≡ load Prg 7 → bit4At b cs 17 ≡ 1 → Settled b cs
+loads-at : {b : Board} {cs : List Call} → moveAt b cs 12 ≡ Fill Control 16 → moveAt b cs 22 ≡ Fill Chr0 5 → moveAt b cs 17 ≡ Fill Chr1 6 → moveAt b cs 7 ≡ Fill Prg 7 → bit4At b cs 17 ≡ 1 → Settled b cs
 loads-at control chr0 chr1 prg bit4 =
     record {
       control = 12;

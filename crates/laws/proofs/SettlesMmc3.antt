@@ -1,33 +1,35 @@
 -- The interrupt unit moves by itself: what a call makes of it, and whether a write is refused, depends on the unit and not on the banks.
 -- Latch, reload, enable and clock leave one unit whatever it was, so from there on two boards have the same one. Assumes nothing.
-use Prim.Native.Nat.{ℕ, _-_, _%_}
+use Prim.Native.Nat.{ℕ}
 use mathlib.Core.Path.{_≡_, refl, sym, ap, _∙_, subst, subst⁻¹}
 use mathlib.Core.Bool.{Bool, true, false, cond, _&&_}
 use mathlib.Core.List.{List, [], _∷_, map}
-use lib.Dec.{ltb, eqb}
+use lib.Dec.{leb}
 use Rattle.common.specs.declared.Mode.{Mode}
 use Rattle.common.specs.declared.Mode.the-variants.{House, Board as OnBoard}
 use Rattle.cartridge.specs.declared.Cartridge.{Cartridge}
 use Rattle.cartridge.specs.declared.Refusal.the-variants.{IrqPending}
 use Rattle.cartridge.specs.declared.MapperType.{MapperType}
 use Rattle.cartridge.specs.declared.MapperType.the-variants.{Mmc3}
-use Rattle.places.specs.declared.Place.the-variants.{PrgRam, Zero, Refused}
+use Rattle.places.specs.Places.{inWindows}
+use Rattle.places.specs.declared.Place.the-variants.{Zero, Refused}
 use Rattle.mmc3.specs.Clock as mmc3-clock
 use Rattle.mmc3.specs.Read as mmc3
-use Rattle.mmc3.specs.Write as mmc3-write
+use Rattle.mmc3.specs.Write.{isEven, moveOf, applied}
 use Rattle.mmc3.specs.declared.Irq.{Irq}
 use Rattle.mmc3.specs.declared.Clocked.{Clocked}
 use Rattle.mmc3.specs.declared.Mmc3 as mmc3-type
-use Rattle.mmc3.specs.declared.Wrote.{Wrote}
+use Rattle.mmc3.specs.declared.Move.{Move}
+use Rattle.mmc3.specs.declared.Move.the-variants.{Nothing, Select, Data, Screens, Latch, Reload, Enable, Disable}
 use Rattle.boards.specs.Range.{inRange}
-use Rattle.boards.specs.Write.{writePlaceOn, writePlace, moved, landing}
+use Rattle.boards.specs.Write.{writePlaceOn, writePlace, acceptedWrite, landing}
 use Rattle.boards.specs.Clock.{yesNo, clock}
 use Rattle.boards.specs.Runs.{Lent, Call, next, after}
 use Rattle.boards.specs.Runs.Call.{read, write, clock as tick}
 use Rattle.boards.specs.declared.Board.{Board}
 use Rattle.laws.specs.Calls.{OneImage, wiped, SameCalls}
 use Rattle.laws.specs.Loads.{isAccepted, accepts}
-use Rattle.laws.specs.SettlesMmc3.{irqAnswers, Arming, latched, armed, Accepts, Settles}
+use Rattle.laws.specs.SettlesMmc3.{irqAnswers, Arming, armed, Accepts, Settles}
 use Rattle.laws.proofs.Positions.{same-accepts, wiped-next, same-after}
 use Rattle.laws.proofs.Ranges.{next-in-range, next-keeps-cart}
 use Rattle.laws.proofs.Cases.{alike}
@@ -35,32 +37,22 @@ use Rattle.laws.proofs.Accepting.{board-alike, accepted-alike, after-wr
 use Rattle.laws.proofs.Arming.{moved-mmc3, tick-irq, tick-answer, cart₃, irq₃, ok₃, mapper₃}
 use Rattle.laws.proofs.Clocks.{ready}
 
-abbrev SameIrq : Wrote → Wrote → Type 0
-SameIrq w u = w .mmc3 .irq ≡ u .mmc3 .irq
-
--- a write to boards with one unit leaves one unit
-written-irq : (m n : mmc3-type.Mmc3) (v a : ℕ) → m .irq ≡ n .irq → SameIrq (mmc3-write.written m v a) (mmc3-write.written n v a)
-unfolding mmc3-write.written mmc3-write.writtenEven mmc3-write.writtenOdd mmc3-write.kept mmc3-write.selected mmc3-write.stored mmc3-write.latched mmc3-write.marked mmc3-write.switched mmc3-clock.withIrq
-written-irq m n v a e =
-    alike SameIrq (eqb (a % 2) 0)
-    (alike SameIrq (ltb a 0x8000) e
-    (alike SameIrq (ltb a 0xA000) e
-    (alike SameIrq (ltb a 0xC000) e
-    (alike SameIrq (ltb a 0xE000) (λ i. record { enabled = e i .enabled; latch = v; counter = e i .counter; reload = e i .reload })
-    (λ i. record { enabled = false; latch = e i .latch; counter = e i .counter; reload = e i .reload })))))
-    (alike SameIrq (ltb a 0x8000) e
-    (alike SameIrq (ltb a 0xA000) e
-    (alike SameIrq (ltb a 0xC000) e
-    (alike SameIrq (ltb a 0xE000) (λ i. record { enabled = e i .enabled; latch = e i .latch; counter = e i .counter; reload = true })
-    (λ i. record { enabled = true; latch = e i .latch; counter = e i .counter; reload = e i .reload })))))
+-- a move leaves one unit of one
+one-irq : (k : Move) (m n : mmc3-type.Mmc3) → m .irq ≡ n .irq → applied k m .irq ≡ applied k n .irq
+unfolding applied mmc3-clock.withIrq
+one-irq Nothing m n e = e
+one-irq (Select v) m n e = e
+one-irq (Data v) m n e = e
+one-irq (Screens v) m n e = e
+one-irq (Latch v) m n e = λ i. record { enabled = e i .enabled; latch = v; counter = e i .counter; reload = e i .reload }
+one-irq Reload m n e = λ i. record { enabled = e i .enabled; latch = e i .latch; counter = e i .counter; reload = true }
+one-irq Enable m n e = λ i. record { enabled = true; latch = e i .latch; counter = e i .counter; reload = e i .reload }
+one-irq Disable m n e = λ i. record { enabled = false; latch = e i .latch; counter = e i .counter; reload = e i .reload }
 
 -- where a house write lands is the unit's matter too
-house-place : (m n : mmc3-type.Mmc3) (a : ℕ) → m .irq ≡ n .irq → mmc3.houseWritePlace m a ≡ mmc3.houseWritePlace n a
-unfolding mmc3.houseWritePlace mmc3.acknowledged
-house-place m n a e =
-    ap
-    (λ (i : Irq). cond (ltb a 0x6000) Zero (cond (ltb a 0x8000) (PrgRam (a - 0x6000)) (cond (ltb a 0xE000) Zero (cond (mmc3-clock.isPending i && eqb (a % 2) 0) (Refused IrqPending) Zero))))
-    e
+house-place : (m n : mmc3-type.Mmc3) (c d : Cartridge) (a : ℕ) → m .irq ≡ n .irq → mmc3.writePlaceIn House m c a ≡ mmc3.writePlaceIn House n d a
+unfolding mmc3.writePlaceIn mmc3.ppuWriteIn mmc3.romWriteIn mmc3.acknowledged
+house-place m n c d a e = ap (λ (i : Irq). inWindows Zero (cond (mmc3-clock.isPending i && leb 0xE000 a && isEven a) (Refused IrqPending) Zero) a) e
 
 cons-alike : {A : Type 0} {x y : A} {xs ys : List A} → x ≡ y → xs ≡ ys → x ∷ xs ≡ y ∷ ys
 cons-alike p q = λ i. p i ∷ q i
@@ -71,7 +63,7 @@ record Alike (b d : Board) : Type 0 where
   is-mmc3 : b .cart .mapper ≡ Mmc3
   first : inRange b ≡ true
   second : inRange d ≡ true
-  irq : b .mmc3 .irq ≡ d .mmc3 .irq
+  irq : b .registers .mmc3 .irq ≡ d .registers .mmc3 .irq
 
 swapped : {b d : Board} → Alike b d → Alike d b
 swapped r =
@@ -82,44 +74,43 @@ module _ {b d : Board} (r : Alike b d) (a : ℕ) where
   mapper-d : d .cart .mapper ≡ Mmc3
   mapper-d = swapped r .is-mmc3
 
-  mmc3-place : (e : Board) → e .cart .mapper ≡ Mmc3 → writePlace e a ≡ mmc3.writePlaceIn (e .cart .mode) (e .mmc3) (e .cart) a
+  mmc3-place : (e : Board) → e .cart .mapper ≡ Mmc3 → writePlace e a ≡ mmc3.writePlaceIn (e .cart .mode) (e .registers .mmc3) (e .cart) a
   unfolding writePlace writePlaceOn
-  mmc3-place e h = subst⁻¹ (λ (x : MapperType). writePlaceOn x e a ≡ mmc3.writePlaceIn (e .cart .mode) (e .mmc3) (e .cart) a) h refl
+  mmc3-place e h = subst⁻¹ (λ (x : MapperType). writePlaceOn x (e .registers) (e .cart) a ≡ mmc3.writePlaceIn (e .cart .mode) (e .registers .mmc3) (e .cart) a) h refl
 
   place-alike : (mode : Mode) → b .cart .mode ≡ mode → isAccepted (writePlace b a) ≡ isAccepted (writePlace d a)
-  unfolding mmc3.writePlaceIn
   place-alike House e =
       let f = ap (λ (c : Cartridge). c .mode) (sym (r .cart)) ∙ e in
       ap isAccepted
       (mmc3-place b (r .is-mmc3)
-      ∙ ap (λ (m : Mode). mmc3.writePlaceIn m (b .mmc3) (b .cart) a) e
-      ∙ house-place (b .mmc3) (d .mmc3) a (r .irq)
-      ∙ sym (ap (λ (m : Mode). mmc3.writePlaceIn m (d .mmc3) (d .cart) a) f)
+      ∙ ap (λ (m : Mode). mmc3.writePlaceIn m (b .registers .mmc3) (b .cart) a) e
+      ∙ house-place (b .registers .mmc3) (d .registers .mmc3) (b .cart) (d .cart) a (r .irq)
+      ∙ sym (ap (λ (m : Mode). mmc3.writePlaceIn m (d .registers .mmc3) (d .cart) a) f)
       ∙ sym (mmc3-place d mapper-d))
   place-alike OnBoard e = board-alike b d (r .cart) (r .first) (r .second) e a
 
   both-accept : (l : Lent) → accepts b l a ≡ accepts d l a
   both-accept l = accepted-alike b d (r .cart) (r .first) (r .second) l a (place-alike (b .cart .mode) refl)
 
-write-irq : {b d : Board} → Alike b d → (l : Lent) (a v : ℕ) → next b (write l a v) .mmc3 .irq ≡ next d (write l a v) .mmc3 .irq
+write-irq : {b d : Board} → Alike b d → (l : Lent) (a v : ℕ) → next b (write l a v) .registers .mmc3 .irq ≡ next d (write l a v) .registers .mmc3 .irq
 unfolding next
 write-irq {b} {d} r l a v =
-    ap (λ (x : Board). x .mmc3 .irq) (after-write b (landing b (l .image) (l .prg) (l .chr) a) v a)
-    ∙ subst (λ (t : Bool). cond (accepts b l a) (moved b v a .board) b .mmc3 .irq ≡ cond t (moved d v a .board) d .mmc3 .irq) (both-accept r a l)
-    (alike (λ (x y : Board). x .mmc3 .irq ≡ y .mmc3 .irq) (accepts b l a)
-    (ap (λ (m : mmc3-type.Mmc3). m .irq) (moved-mmc3 b (b .cart .mapper) refl (r .is-mmc3) v a)
-    ∙ written-irq (b .mmc3) (d .mmc3) v a (r .irq)
-    ∙ sym (ap (λ (m : mmc3-type.Mmc3). m .irq) (moved-mmc3 d (d .cart .mapper) refl (swapped r .is-mmc3) v a)))
+    ap (λ (x : Board). x .registers .mmc3 .irq) (after-write b (landing b (l .image) (l .prg) (l .chr) a) v a)
+    ∙ subst (λ (t : Bool). cond (accepts b l a) (acceptedWrite b v a .board) b .registers .mmc3 .irq ≡ cond t (acceptedWrite d v a .board) d .registers .mmc3 .irq) (both-accept r a l)
+    (alike (λ (x y : Board). x .registers .mmc3 .irq ≡ y .registers .mmc3 .irq) (accepts b l a)
+    (ap (λ (m : mmc3-type.Mmc3). m .irq) (moved-mmc3 b (r .is-mmc3) v a)
+    ∙ one-irq (moveOf v a) (b .registers .mmc3) (d .registers .mmc3) (r .irq)
+    ∙ sym (ap (λ (m : mmc3-type.Mmc3). m .irq) (moved-mmc3 d (swapped r .is-mmc3) v a)))
     (r .irq))
-    ∙ sym (ap (λ (x : Board). x .mmc3 .irq) (after-write d (landing d (l .image) (l .prg) (l .chr) a) v a))
+    ∙ sym (ap (λ (x : Board). x .registers .mmc3 .irq) (after-write d (landing d (l .image) (l .prg) (l .chr) a) v a))
 
-read-irq : {b d : Board} → Alike b d → (l : Lent) (a : ℕ) → next b (read l a) .mmc3 .irq ≡ next d (read l a) .mmc3 .irq
+read-irq : {b d : Board} → Alike b d → (l : Lent) (a : ℕ) → next b (read l a) .registers .mmc3 .irq ≡ next d (read l a) .registers .mmc3 .irq
 unfolding next
 read-irq r l a = r .irq
 
 -- one clock of one unit in one mode
-same-clock : {A : Type 0} (f : Mode → Irq → A) {b d : Board} → Alike b d → f (b .cart .mode) (b .mmc3 .irq) ≡ f (d .cart .mode) (d .mmc3 .irq)
-same-clock f {b} {d} r = ap (λ (c : Cartridge). f (c .mode) (b .mmc3 .irq)) (r .cart) ∙ ap (f (d .cart .mode)) (r .irq)
+same-clock : {A : Type 0} (f : Mode → Irq → A) {b d : Board} → Alike b d → f (b .cart .mode) (b .registers .mmc3 .irq) ≡ f (d .cart .mode) (d .registers .mmc3 .irq)
+same-clock f {b} {d} r = ap (λ (c : Cartridge). f (c .mode) (b .registers .mmc3 .irq)) (r .cart) ∙ ap (f (d .cart .mode)) (r .irq)
 
 -- any call keeps what the boards have in common
 next-alike : {b d : Board} → Alike b d → (c : Call) → Alike (next b c) (next d c)
@@ -132,7 +123,7 @@ next-alike {b} {d} r c =
       irq = units c;
     }
   where
-    units : (c : Call) → next b c .mmc3 .irq ≡ next d c .mmc3 .irq
+    units : (c : Call) → next b c .registers .mmc3 .irq ≡ next d c .registers .mmc3 .irq
     units (read l a) = read-irq r l a
     units (write l a v) = write-irq r l a v
     units tick =
@@ -189,12 +180,12 @@ mmc3-settles b d one w u latch p q cs ds same-calls =
     carts : armed b w .cart ≡ armed d u .cart
     carts = cart₃ b (one .first) (one .mapper) w p ∙ one .cart ∙ sym (cart₃ d (one .second) mp u q)
 
-    clocks : mmc3-clock.clockIn (armed b w .cart .mode) (armed b w .mmc3 .irq) ≡ mmc3-clock.clockIn (armed d u .cart .mode) (armed d u .mmc3 .irq)
+    clocks : mmc3-clock.clockIn (armed b w .cart .mode) (armed b w .registers .mmc3 .irq) ≡ mmc3-clock.clockIn (armed d u .cart .mode) (armed d u .registers .mmc3 .irq)
     clocks =
         ap (mmc3-clock.clockIn (armed b w .cart .mode)) (irq₃ b (one .first) (one .mapper) w p)
-        ∙ settled (armed b w .cart .mode) (w .latch .byte) (b .mmc3 .irq .counter) (d .mmc3 .irq .counter)
-        ∙ ap (λ (n : ℕ). mmc3-clock.clockIn (armed b w .cart .mode) (ready n (d .mmc3 .irq .counter))) latch
-        ∙ ap (λ (c : Cartridge). mmc3-clock.clockIn (c .mode) (ready (u .latch .byte) (d .mmc3 .irq .counter))) carts
+        ∙ settled (armed b w .cart .mode) (w .latch .byte) (b .registers .mmc3 .irq .counter) (d .registers .mmc3 .irq .counter)
+        ∙ ap (λ (n : ℕ). mmc3-clock.clockIn (armed b w .cart .mode) (ready n (d .registers .mmc3 .irq .counter))) latch
+        ∙ ap (λ (c : Cartridge). mmc3-clock.clockIn (c .mode) (ready (u .latch .byte) (d .registers .mmc3 .irq .counter))) carts
         ∙ sym (ap (mmc3-clock.clockIn (armed d u .cart .mode)) (irq₃ d (one .second) mp u q))
 
     mb : armed b w .cart .mapper ≡ Mmc3

@@ -8,7 +8,8 @@ use lib.ListN.{replicate}
 use Rattle.common.specs.declared.Mode.{Mode}
 use Rattle.common.specs.declared.Mode.the-variants.{House, Board as OnBoard}
 use Rattle.cartridge.specs.declared.MapperType.the-variants.{Mmc3}
-use Rattle.boards.specs.Write.{withMmc3}
+use Rattle.boards.specs.Registers.{withMmc3}
+use Rattle.boards.specs.Write.{withRegisters}
 use Rattle.boards.specs.Runs.{Lent, Call, after}
 use Rattle.boards.specs.Runs.Call.{read, write, clock}
 use Rattle.boards.specs.declared.Board.{Board}
@@ -34,14 +35,15 @@ fresh mode = loadOf mode mmc3-image .board
 
 abbrev used : Mode → Board
 used mode =
-    withMmc3 (fresh mode)
+    withRegisters (fresh mode)
+    (withMmc3 (fresh mode .registers)
     (record {
       select = 3;
       prgmode = 1;
       chrmode = 1;
       regs = 2 ∷ 4 ∷ 1 ∷ 2 ∷ 3 ∷ 4 ∷ 5 ∷ 6 ∷ [];
       irq = record { enabled = true; latch = 9; counter = 7; reload = false };
-    })
+    }))
 
 abbrev arming : Lent → Arming
 arming l =

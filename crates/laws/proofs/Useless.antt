@@ -32,11 +32,11 @@ stays : next board (read lent 0x8000) ≡ board
 unfolding next
 stays = refl
 
-moves : next board (write lent 0x8000 1) .uxrom .bank ≡ 1
+moves : next board (write lent 0x8000 1) .registers .uxrom .bank ≡ 1
 unfolding opened
 moves = refl
 
-rests : board .uxrom .bank ≡ 0
+rests : board .registers .uxrom .bank ≡ 0
 unfolding opened
 rests = refl
 
@@ -60,7 +60,7 @@ module _ (p : Program) (m : Meets p) where
   pub some-write-moves : NeverMoves p → ⊥
   some-write-moves never =
       let x = sym (m .turns board (write lent 0x8000 1)) ∙ never .board board lent 0x8000 1 in
-      let z : _≡_ {A = ℕ} 1 0 = sym moves ∙ ap (λ (b : Board). b .uxrom .bank) x ∙ rests in
+      let z : _≡_ {A = ℕ} 1 0 = sym moves ∙ ap (λ (b : Board). b .registers .uxrom .bank) x ∙ rests in
       omega arith
 
   pub some-answer-is-new : Repeats p → ⊥

@@ -1,7 +1,7 @@
 -- For a board in range every place of a read or a write lies inside what it names, since a bank that ends past its data is refused.
 -- In board mode none is refused, by the modulo rule. Assumes nothing.
 use Prim.Native.Nat.{ℕ, _+_, _-_, _*_, _/_, _%_, _≤_, _<_}
-use mathlib.Core.Path.{_≡_, refl, subst⁻¹}
+use mathlib.Core.Path.{_≡_, refl, sym, ap, _∙_, subst⁻¹}
 use mathlib.Core.Bool.{Bool, true, false, cond, not, _&&_, _||_}
 use native.Mathlib.Omega.{arith}
 use lib.Dec.{ltb, leb, eqb}
@@ -19,17 +19,21 @@ use Rattle.cartridge.specs.Load.{badPrg, oddCounts, needed, isHeaders, couldLoa
 use Rattle.cartridge.specs.declared.Cartridge.{Cartridge}
 use Rattle.cartridge.specs.declared.MapperType.{MapperType}
 use Rattle.cartridge.specs.declared.MapperType.the-variants.{Nrom, Mmc1, Uxrom, Cnrom, Mmc3}
-use Rattle.places.specs.Places.{prgAt, chrAt, prgPlace, chrPlace, housePpuWrite}
+use Rattle.places.specs.Places.{prgAt, chrAt, prgPlace, chrPlace, inWindows, housePpuWrite}
+use Rattle.places.specs.declared.Place.the-variants.{Zero}
 use Rattle.nrom.specs.Nrom as nrom
 use Rattle.uxrom.specs.Uxrom as uxrom
 use Rattle.cnrom.specs.Cnrom as cnrom
 use Rattle.mmc1.specs.Read as mmc1
 use Rattle.mmc3.specs.Read as mmc3
 use Rattle.mmc3.specs.Clock.{isPending}
-use Rattle.boards.specs.Range.{registersFit, mirroringFits, inRange}
+use Rattle.mmc3.specs.Write.{isEven}
+use Rattle.boards.specs.Registers.{fits}
+use Rattle.boards.specs.Range.{mirroringFits, inRange}
 use Rattle.boards.specs.Read.{readPlaceOn, readPlace}
 use Rattle.boards.specs.Write.{writePlaceOn, writePlace}
 use Rattle.boards.specs.declared.Board.{Board}
+use Rattle.boards.specs.declared.Registers.{Registers}
 use Rattle.laws.specs.Within.{Lies, Found}
 use Rattle.laws.proofs.Cases.{either, by-test}
 
@@ -42,7 +46,7 @@ roomy : (b : Board) → inRange b ≡ true → Roomy (b .cart)
 unfolding inRange couldLoad badPrg
 roomy b h =
     let c = b .cart in
-    let p = split-3 (couldLoad c) (registersFit b) (mirroringFits b) h in
+    let p = split-3 (couldLoad c) (fits (b .cart .mapper) (b .registers)) (mirroringFits b) h in
     let q = split-3 (not (badPrg (mapperNumber (c .mapper)) (c .prg)) && not (oddCounts (c .mode) (c .prg) (c .chr))) (ltb (c .prg) 256 && ltb (c .chr) 256 && leb (needed (c .prg) (c .chr)) (c .length)) (isHeaders (c .mirroring)) (p .0) in
     let n = not-true (badPrg (mapperNumber (c .mapper)) (c .prg)) (and-left (not (badPrg (mapperNumber (c .mapper)) (c .prg))) (not (oddCounts (c .mode) (c .prg) (c .chr))) (q .0)) in
     record {
@@ -124,75 +128,73 @@ module _ (c : Cartridge) (r : Roomy c) (a : ℕ) (top : a < 0x10000) where
   unfolding cnrom.houseWritePlace
   cnrom-write-lies = by-test (Lies c) (ltb a 0x2000) (λ e. ltb-true a 0x2000 e) (λ e. either (Lies c) (ltb a 0x8000) tt tt)
 
-  mmc1-lies : (m : _) → Lies c (mmc1.readPlace m c a)
-  unfolding mmc1.readPlace mmc1.lowerChrPlace mmc1.upperChrPlace mmc1.lowerPrgPlace mmc1.upperPrgPlace
-  mmc1-lies m =
-      by-test (Lies c) (ltb a 0x1000) (λ e. chr-lies c r KB4 (mmc1.lowerChr (c .mode) (m .regs)) a (ltb-true a 0x1000 e))
-      (λ e. by-test (Lies c) (ltb a 0x2000) (λ f. chr-lies c r KB4 (mmc1.upperChr (c .mode) (m .regs)) (a - 0x1000) (omega (arith, ltb-true a 0x2000 f)))
-      (λ f. by-test (Lies c) (ltb a 0x6000) (λ g. tt)
-      (λ g. by-test (Lies c) (ltb a 0x8000) (λ h. let l : a < 0x8000 = ltb-true a 0x8000 h in omega (arith, ltb-false a 0x6000 g))
-      (λ h. by-test (Lies c) (ltb a 0xC000)
-      (λ k. prg-lies c r KB16 (mmc1.lowerPrg (c .mode) (m .regs)) (a - 0x8000) (omega (arith, ltb-true a 0xC000 k)))
-      (λ k. prg-lies c r KB16 (mmc1.upperPrg (c .mode) (m .regs) (lastPrg c)) (a - 0xC000) (omega arith))))))
-
-  mmc1-write-lies : Lies c (mmc1.houseWritePlace c a)
-  unfolding mmc1.houseWritePlace
-  mmc1-write-lies =
-      by-test (Lies c) (ltb a 0x2000) (λ e. ppu-lies (ltb-true a 0x2000 e))
+  -- the windows of MMC1 and MMC3
+  windows-lie : (ppu rom : _) → (a < 0x2000 → Lies c ppu) → Lies c rom → Lies c (inWindows ppu rom a)
+  unfolding inWindows
+  windows-lie ppu rom p q =
+      by-test (Lies c) (ltb a 0x2000) (λ e. p (ltb-true a 0x2000 e))
       (λ e. by-test (Lies c) (ltb a 0x6000) (λ f. tt)
-      (λ f. by-test (Lies c) (ltb a 0x8000) (λ g. let l : a < 0x8000 = ltb-true a 0x8000 g in omega arith) (λ g. tt)))
+      (λ f. by-test (Lies c) (ltb a 0x8000) (λ g. let l : a < 0x8000 = ltb-true a 0x8000 g in omega (arith, ltb-false a 0x6000 f)) (λ g. q)))
+
+  mmc1-lies : (m : _) → Lies c (mmc1.readPlace m c a)
+  unfolding mmc1.readPlace mmc1.chrAt mmc1.prgAt
+  mmc1-lies m =
+      windows-lie (mmc1.chrAt m c a) (mmc1.prgAt m c a) (λ h. chr-lies c r KB4 (mmc1.chrBank m c a) (a % 4096) (omega arith))
+      (prg-lies c r KB16 (mmc1.prgBank m c a) (a % 16384) (omega arith))
+
+  mmc1-write-lies : (m : _) → Lies c (mmc1.writePlaceIn House m c a)
+  unfolding mmc1.writePlaceIn mmc1.ppuWriteIn mmc1.romWriteIn
+  mmc1-write-lies m = windows-lie (housePpuWrite c a) Zero (λ h. ppu-lies h) tt
 
   mmc3-lies : (m : _) → Lies c (mmc3.readPlace m c a)
   unfolding mmc3.readPlace mmc3.chrAt mmc3.prgAt
   mmc3-lies m =
-      by-test (Lies c) (ltb a 0x2000) (λ e. chr-lies c r KB1 (mmc3.chrBank m (a / 1024)) (a % 1024) (omega arith))
-      (λ e. by-test (Lies c) (ltb a 0x6000) (λ f. tt)
-      (λ f. by-test (Lies c) (ltb a 0x8000) (λ g. let l : a < 0x8000 = ltb-true a 0x8000 g in omega arith)
-      (λ g. prg-lies c r KB8 (mmc3.prgBank m c a) (a % 8192) (omega arith))))
+      windows-lie (mmc3.chrAt m c a) (mmc3.prgAt m c a) (λ h. chr-lies c r KB1 (mmc3.chrBank m (a / 1024)) (a % 1024) (omega arith))
+      (prg-lies c r KB8 (mmc3.prgBank m c a) (a % 8192) (omega arith))
 
-  mmc3-write-lies : (m : _) → Lies c (mmc3.houseWritePlace m a)
-  unfolding mmc3.houseWritePlace mmc3.acknowledged
-  mmc3-write-lies m =
-      by-test (Lies c) (ltb a 0x6000) (λ f. tt)
-      (λ f. by-test (Lies c) (ltb a 0x8000) (λ g. let l : a < 0x8000 = ltb-true a 0x8000 g in omega arith)
-      (λ g. either (Lies c) (ltb a 0xE000) tt (either (Lies c) (isPending (m .irq) && eqb (a % 2) 0) tt tt)))
+  mmc3-write-lies : (m : _) → Lies c (mmc3.writePlaceIn House m c a)
+  unfolding mmc3.writePlaceIn mmc3.ppuWriteIn mmc3.romWriteIn mmc3.acknowledged
+  mmc3-write-lies m = windows-lie Zero (mmc3.acknowledged m a) (λ h. tt) (either (Lies c) (isPending (m .irq) && leb 0xE000 a && isEven a) tt tt)
 
-reads-on : (k : MapperType) (b : Board) (a : ℕ) → Roomy (b .cart) → a < 0x10000 → Lies (b .cart) (readPlaceOn k b a)
+reads-on : (k : MapperType) (x : Registers) (c : Cartridge) (a : ℕ) → Roomy c → a < 0x10000 → Lies c (readPlaceOn k x c a)
 unfolding readPlaceOn
-reads-on Nrom b a r h = nrom-lies (b .cart) r a h
-reads-on Mmc1 b a r h = mmc1-lies (b .cart) r a h (b .mmc1)
-reads-on Uxrom b a r h = uxrom-lies (b .cart) r a h (b .uxrom)
-reads-on Cnrom b a r h = cnrom-lies (b .cart) r a h (b .cart .mode) (b .cnrom)
-reads-on Mmc3 b a r h = mmc3-lies (b .cart) r a h (b .mmc3)
+reads-on Nrom x c a r h = nrom-lies c r a h
+reads-on Mmc1 x c a r h = mmc1-lies c r a h (x .mmc1)
+reads-on Uxrom x c a r h = uxrom-lies c r a h (x .uxrom)
+reads-on Cnrom x c a r h = cnrom-lies c r a h (c .mode) (x .cnrom)
+reads-on Mmc3 x c a r h = mmc3-lies c r a h (x .mmc3)
 
 -- every place of a read
 pub read-within : (b : Board) (a : ℕ) → inRange b ≡ true → a < 0x10000 → Lies (b .cart) (readPlace b a)
 unfolding readPlace
-read-within b a e h = reads-on (b .cart .mapper) b a (roomy b e) h
+read-within b a e h = reads-on (b .cart .mapper) (b .registers) (b .cart) a (roomy b e) h
 
-writes-on : (mode : Mode) (k : MapperType) (b : Board) (a : ℕ) → b .cart .mode ≡ mode → Roomy (b .cart) → a < 0x10000 → Lies (b .cart) (writePlaceOn k b a)
-unfolding writePlaceOn nrom.writePlaceIn uxrom.writePlaceIn cnrom.writePlaceIn cnrom.readPlaceIn mmc1.writePlaceIn mmc3.writePlaceIn
-writes-on mode k b a e r h = go mode k e
-  where
-    c : Cartridge
-    c = b .cart
+-- on the real board a byte is stored where it would be read
+stored-where-read : (k : MapperType) (x : Registers) (c : Cartridge) (a : ℕ) → c .mode ≡ OnBoard → writePlaceOn k x c a ≡ readPlaceOn k x c a
+unfolding writePlaceOn readPlaceOn nrom.writePlaceIn uxrom.writePlaceIn cnrom.writePlaceIn cnrom.readPlaceIn mmc1.writePlaceIn mmc1.ppuWriteIn mmc1.romWriteIn mmc1.readPlace mmc3.writePlaceIn mmc3.ppuWriteIn mmc3.romWriteIn mmc3.readPlace
+stored-where-read Nrom x c a e = ap (λ (m : Mode). nrom.writePlaceIn m c a) e
+stored-where-read Mmc1 x c a e = ap (λ (m : Mode). mmc1.writePlaceIn m (x .mmc1) c a) e
+stored-where-read Uxrom x c a e = ap (λ (m : Mode). uxrom.writePlaceIn m (x .uxrom) c a) e
+stored-where-read Cnrom x c a e =
+    ap (λ (m : Mode). cnrom.writePlaceIn m (x .cnrom) c a) e ∙ sym (ap (λ (m : Mode). cnrom.readPlaceIn m (x .cnrom) c a) e)
+stored-where-read Mmc3 x c a e = ap (λ (m : Mode). mmc3.writePlaceIn m (x .mmc3) c a) e
 
-    go : (mode : Mode) (k : MapperType) → c .mode ≡ mode → Lies c (writePlaceOn k b a)
-    go House Nrom e = subst⁻¹ (λ (m : Mode). Lies c (nrom.writePlaceIn m c a)) e (nrom-write-lies c r a h)
-    go House Mmc1 e = subst⁻¹ (λ (m : Mode). Lies c (mmc1.writePlaceIn m (b .mmc1) c a)) e (mmc1-write-lies c r a h)
-    go House Uxrom e = subst⁻¹ (λ (m : Mode). Lies c (uxrom.writePlaceIn m (b .uxrom) c a)) e (nrom-write-lies c r a h)
-    go House Cnrom e = subst⁻¹ (λ (m : Mode). Lies c (cnrom.writePlaceIn m (b .cnrom) c a)) e (cnrom-write-lies c r a h)
-    go House Mmc3 e = subst⁻¹ (λ (m : Mode). Lies c (mmc3.writePlaceIn m (b .mmc3) c a)) e (mmc3-write-lies c r a h (b .mmc3))
-    go OnBoard Nrom e = subst⁻¹ (λ (m : Mode). Lies c (nrom.writePlaceIn m c a)) e (nrom-lies c r a h)
-    go OnBoard Mmc1 e = subst⁻¹ (λ (m : Mode). Lies c (mmc1.writePlaceIn m (b .mmc1) c a)) e (mmc1-lies c r a h (b .mmc1))
-    go OnBoard Uxrom e = subst⁻¹ (λ (m : Mode). Lies c (uxrom.writePlaceIn m (b .uxrom) c a)) e (uxrom-lies c r a h (b .uxrom))
-    go OnBoard Cnrom e = subst⁻¹ (λ (m : Mode). Lies c (cnrom.writePlaceIn m (b .cnrom) c a)) e (cnrom-lies c r a h OnBoard (b .cnrom))
-    go OnBoard Mmc3 e = subst⁻¹ (λ (m : Mode). Lies c (mmc3.writePlaceIn m (b .mmc3) c a)) e (mmc3-lies c r a h (b .mmc3))
+house-writes-on : (k : MapperType) (x : Registers) (c : Cartridge) (a : ℕ) → c .mode ≡ House → Roomy c → a < 0x10000 → Lies c (writePlaceOn k x c a)
+unfolding writePlaceOn nrom.writePlaceIn uxrom.writePlaceIn cnrom.writePlaceIn
+house-writes-on Nrom x c a e r h = subst⁻¹ (λ (m : Mode). Lies c (nrom.writePlaceIn m c a)) e (nrom-write-lies c r a h)
+house-writes-on Mmc1 x c a e r h = subst⁻¹ (λ (m : Mode). Lies c (mmc1.writePlaceIn m (x .mmc1) c a)) e (mmc1-write-lies c r a h (x .mmc1))
+house-writes-on Uxrom x c a e r h = subst⁻¹ (λ (m : Mode). Lies c (uxrom.writePlaceIn m (x .uxrom) c a)) e (nrom-write-lies c r a h)
+house-writes-on Cnrom x c a e r h = subst⁻¹ (λ (m : Mode). Lies c (cnrom.writePlaceIn m (x .cnrom) c a)) e (cnrom-write-lies c r a h)
+house-writes-on Mmc3 x c a e r h = subst⁻¹ (λ (m : Mode). Lies c (mmc3.writePlaceIn m (x .mmc3) c a)) e (mmc3-write-lies c r a h (x .mmc3))
+
+writes-on : (mode : Mode) (k : MapperType) (x : Registers) (c : Cartridge) (a : ℕ) → c .mode ≡ mode → Roomy c → a < 0x10000 → Lies c (writePlaceOn k x c a)
+writes-on House k x c a e r h = house-writes-on k x c a e r h
+writes-on OnBoard k x c a e r h = subst⁻¹ (Lies c) (stored-where-read k x c a e) (reads-on k x c a r h)
 
 -- every place of a write
 pub write-within : (b : Board) (a : ℕ) → inRange b ≡ true → a < 0x10000 → Lies (b .cart) (writePlace b a)
 unfolding writePlace
-write-within b a e h = writes-on (b .cart .mode) (b .cart .mapper) b a refl (roomy b e) h
+write-within b a e h = writes-on (b .cart .mode) (b .cart .mapper) (b .registers) (b .cart) a refl (roomy b e) h
 
 -- board mode: "Refusals 11 to 14 do not occur"
 module _ (c : Cartridge) (r : Roomy c) (e : c .mode ≡ OnBoard) where
@@ -235,51 +237,35 @@ module _ (c : Cartridge) (r : Roomy c) (e : c .mode ≡ OnBoard) where
   unfolding cnrom.boardReadPlace
   cnrom-found u a = either Found (ltb a 0x2000) (chr-found KB8 (u .bank) a (omega arith) (omega arith)) (fixed-found a)
 
+  windows-found : (ppu rom : _) (a : ℕ) → Found ppu → Found rom → Found (inWindows ppu rom a)
+  unfolding inWindows
+  windows-found ppu rom a p q = either Found (ltb a 0x2000) p (either Found (ltb a 0x6000) tt (either Found (ltb a 0x8000) tt q))
+
   mmc1-found : (m : _) (a : ℕ) → Found (mmc1.readPlace m c a)
-  unfolding mmc1.readPlace mmc1.lowerChrPlace mmc1.upperChrPlace mmc1.lowerPrgPlace mmc1.upperPrgPlace
+  unfolding mmc1.readPlace mmc1.chrAt mmc1.prgAt
   mmc1-found m a =
-      either Found (ltb a 0x1000) (chr-found KB4 (mmc1.lowerChr (c .mode) (m .regs)) a (omega arith) (omega arith))
-      (either Found (ltb a 0x2000) (chr-found KB4 (mmc1.upperChr (c .mode) (m .regs)) (a - 0x1000) (omega arith) (omega arith))
-      (either Found (ltb a 0x6000) tt
-      (either Found (ltb a 0x8000) tt
-      (either Found (ltb a 0xC000) (prg-found KB16 (mmc1.lowerPrg (c .mode) (m .regs)) (a - 0x8000) (omega arith) (omega arith))
-      (prg-found KB16 (mmc1.upperPrg (c .mode) (m .regs) (lastPrg c)) (a - 0xC000) (omega arith) (omega arith))))))
+      windows-found (mmc1.chrAt m c a) (mmc1.prgAt m c a) a (chr-found KB4 (mmc1.chrBank m c a) (a % 4096) (omega arith) (omega arith))
+      (prg-found KB16 (mmc1.prgBank m c a) (a % 16384) (omega arith) (omega arith))
 
   mmc3-found : (m : _) (a : ℕ) → Found (mmc3.readPlace m c a)
   unfolding mmc3.readPlace mmc3.chrAt mmc3.prgAt
   mmc3-found m a =
-      either Found (ltb a 0x2000) (chr-found KB1 (mmc3.chrBank m (a / 1024)) (a % 1024) (omega arith) (omega arith))
-      (either Found (ltb a 0x6000) tt
-      (either Found (ltb a 0x8000) tt (prg-found KB8 (mmc3.prgBank m c a) (a % 8192) (omega arith) (omega arith))))
+      windows-found (mmc3.chrAt m c a) (mmc3.prgAt m c a) a (chr-found KB1 (mmc3.chrBank m (a / 1024)) (a % 1024) (omega arith) (omega arith))
+      (prg-found KB8 (mmc3.prgBank m c a) (a % 8192) (omega arith) (omega arith))
+
+  found-on : (k : MapperType) (x : Registers) (a : ℕ) → Found (readPlaceOn k x c a)
+  unfolding readPlaceOn cnrom.readPlaceIn
+  found-on Nrom x a = nrom-found a
+  found-on Mmc1 x a = mmc1-found (x .mmc1) a
+  found-on Uxrom x a = uxrom-found (x .uxrom) a
+  found-on Cnrom x a = subst⁻¹ (λ (m : Mode). Found (cnrom.readPlaceIn m (x .cnrom) c a)) e (cnrom-found (x .cnrom) a)
+  found-on Mmc3 x a = mmc3-found (x .mmc3) a
 
 module _ (b : Board) (e : b .cart .mode ≡ OnBoard) (ok : inRange b ≡ true) (a : ℕ) where
   pub board-reads : Found (readPlace b a)
-  unfolding readPlace readPlaceOn cnrom.readPlaceIn
-  board-reads = go (b .cart .mapper)
-    where
-      r : Roomy (b .cart)
-      r = roomy b ok
-
-      go : (k : MapperType) → Found (readPlaceOn k b a)
-      go Nrom = nrom-found (b .cart) r e a
-      go Mmc1 = mmc1-found (b .cart) r e (b .mmc1) a
-      go Uxrom = uxrom-found (b .cart) r e (b .uxrom) a
-      go Cnrom = subst⁻¹ (λ (m : Mode). Found (cnrom.readPlaceIn m (b .cnrom) (b .cart) a)) e (cnrom-found (b .cart) r e (b .cnrom) a)
-      go Mmc3 = mmc3-found (b .cart) r e (b .mmc3) a
+  unfolding readPlace
+  board-reads = found-on (b .cart) (roomy b ok) e (b .cart .mapper) (b .registers) a
 
   pub board-writes : Found (writePlace b a)
-  unfolding writePlace writePlaceOn nrom.writePlaceIn uxrom.writePlaceIn cnrom.writePlaceIn mmc1.writePlaceIn mmc3.writePlaceIn
-  board-writes = go (b .cart .mapper)
-    where
-      c : Cartridge
-      c = b .cart
-
-      r : Roomy c
-      r = roomy b ok
-
-      go : (k : MapperType) → Found (writePlaceOn k b a)
-      go Nrom = subst⁻¹ (λ (m : Mode). Found (nrom.writePlaceIn m c a)) e (nrom-found c r e a)
-      go Mmc1 = subst⁻¹ (λ (m : Mode). Found (mmc1.writePlaceIn m (b .mmc1) c a)) e (mmc1-found c r e (b .mmc1) a)
-      go Uxrom = subst⁻¹ (λ (m : Mode). Found (uxrom.writePlaceIn m (b .uxrom) c a)) e (uxrom-found c r e (b .uxrom) a)
-      go Cnrom = subst⁻¹ (λ (m : Mode). Found (cnrom.writePlaceIn m (b .cnrom) c a)) e (cnrom-found c r e (b .cnrom) a)
-      go Mmc3 = subst⁻¹ (λ (m : Mode). Found (mmc3.writePlaceIn m (b .mmc3) c a)) e (mmc3-found c r e (b .mmc3) a)
+  unfolding writePlace readPlace
+  board-writes = subst⁻¹ Found (stored-where-read (b .cart .mapper) (b .registers) (b .cart) a e) board-reads

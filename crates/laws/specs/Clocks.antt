@@ -20,9 +20,9 @@ pub record Plays (mode : Mode) (b : Board) : Type 0 where
 -- "With latch n, reload and enable written": such a board after them
 pub record Ready (mode : Mode) (n : ℕ) (b : Board) : Type 0 where
   pub plays : Plays mode b
-  pub latch : b .mmc3 .irq .latch ≡ n
-  pub reload : b .mmc3 .irq .reload ≡ true
-  pub enabled : b .mmc3 .irq .enabled ≡ true
+  pub latch : b .registers .mmc3 .irq .latch ≡ n
+  pub reload : b .registers .mmc3 .irq .reload ≡ true
+  pub enabled : b .registers .mmc3 .irq .enabled ≡ true
 
 -- the board after k clocks, "and nothing after"
 abbrev pub ticked : ℕ → Board → Board

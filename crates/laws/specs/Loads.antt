@@ -1,32 +1,18 @@
--- Which writes a board accepts, and the loads that the calls of a run complete on an MMC1 board.
+-- Which writes a board accepts, and the moves that the calls of a run make on an MMC1 board.
 use Prim.Native.Nat.{ℕ}
-use mathlib.Core.Bool.{Bool, true, false, cond, not, _&&_}
+use mathlib.Core.Bool.{Bool, true, false, cond, _&&_}
 use mathlib.Core.List.{List, [], _∷_}
-use lib.Dec.{ltb}
-use Rattle.common.specs.Common.{isSigned}
-use Rattle.cartridge.specs.declared.MapperType.{MapperType}
-use Rattle.cartridge.specs.declared.MapperType.the-variants.{Nrom, Mmc1, Uxrom, Cnrom, Mmc3}
+use Rattle.cartridge.specs.Answers.{isMapper}
+use Rattle.cartridge.specs.declared.MapperType.the-variants.{Mmc1}
 use Rattle.places.specs.declared.Place.{Place}
 use Rattle.places.specs.declared.Place.the-variants.{Prg, Chr, PrgRam, ChrRam, Zero, Refused}
-use Rattle.mmc1.specs.Write.{shifted, registerAt}
-use Rattle.mmc1.specs.declared.Register.{Register}
+use Rattle.mmc1.specs.Write.{moveOf}
+use Rattle.mmc1.specs.declared.Move.{Move}
+use Rattle.mmc1.specs.declared.Move.the-variants.{Nothing}
 use Rattle.boards.specs.Write.{landing}
 use Rattle.boards.specs.Runs.{Lent, Call, next}
 use Rattle.boards.specs.Runs.Call.{read, write, clock}
 use Rattle.boards.specs.declared.Board.{Board}
-
--- what a call completes: nothing, or the load of five bits into a register
-pub data Done : Type 0 where
-  nothing : Done
-  load : Register → ℕ → Done
-
--- only MMC1 has a serial register
-unfoldable pub isMmc1 : MapperType → Bool
-isMmc1 Mmc1 = true
-isMmc1 Nrom = false
-isMmc1 Uxrom = false
-isMmc1 Cnrom = false
-isMmc1 Mmc3 = false
 
 -- whether a write that lands there is accepted
 unfoldable pub isAccepted : Place → Bool
@@ -41,24 +27,13 @@ isAccepted Zero = true
 abbrev pub accepts : Board → Lent → ℕ → Bool
 accepts b l a = isAccepted (landing b (l .image) (l .prg) (l .chr) a)
 
--- a write to 8000-FFFF without bit 7, accepted by an MMC1 board
-unfoldable pub isSerial : Board → Lent → ℕ → ℕ → Bool
-isSerial b l a v = isMmc1 (b .cart .mapper) && accepts b l a && not (ltb a 0x8000) && not (isSigned v)
+-- the move that a call makes on an MMC1 board; a refused write, any other call and any other board make none
+unfoldable pub made : Board → Call → Move
+made b (read l a) = Nothing
+made b (write l a v) = cond (isMapper (b .cart .mapper) Mmc1 && accepts b l a) (moveOf (b .registers .mmc1 .serial) v a) Nothing
+made b clock = Nothing
 
--- a write to 8000-FFFF with bit 7, accepted by an MMC1 board
-unfoldable pub isReset : Board → Call → Bool
-isReset b (read l a) = false
-isReset b (write l a v) = isMmc1 (b .cart .mapper) && accepts b l a && not (ltb a 0x8000) && isSigned v
-isReset b clock = false
-
--- "the fifth completes a load"; a refused write completes nothing
-unfoldable pub completes : Board → Call → Done
-completes b (read l a) = nothing
-completes b (write l a v) =
-    cond (isSerial b l a v && not (ltb (b .mmc1 .serial .count) 4)) (load (registerAt a) (shifted (b .mmc1 .serial) v)) nothing
-completes b clock = nothing
-
--- the loads of a list of calls, in order
-unfoldable pub loads : Board → List Call → List Done
-loads b [] = []
-loads b (c ∷ cs) = completes b c ∷ loads (next b c) cs
+-- the moves of a list of calls, in order: each `Fill` is a completed load, with its register and its five bits
+unfoldable pub moves : Board → List Call → List Move
+moves b [] = []
+moves b (c ∷ cs) = made b c ∷ moves (next b c) cs

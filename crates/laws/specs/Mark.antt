@@ -21,8 +21,7 @@ cartMarked mark c =
 
 -- a board with this mark
 abbrev pub marked : Bool → Board → Board
-marked mark b =
-    record { cart = cartMarked mark (b .cart); mirroring = b .mirroring; uxrom = b .uxrom; cnrom = b .cnrom; mmc1 = b .mmc1; mmc3 = b .mmc3 }
+marked mark b = record { cart = cartMarked mark (b .cart); mirroring = b .mirroring; registers = b .registers }
 
 -- an image with another byte 7
 abbrev pub withByte7 : ℕ → List ℕ → List ℕ

@@ -4,6 +4,8 @@ use mathlib.Core.List.{List, [], _∷_, _++_, map}
 use lib.ListN.{replicate}
 use Rattle.common.specs.declared.Mode.{Mode}
 use Rattle.common.specs.declared.Mode.the-variants.{House, Board as OnBoard}
+use Rattle.mmc1.specs.declared.Move.{Move}
+use Rattle.mmc1.specs.declared.Move.the-variants.{Nothing, Clear, Enter, Fill}
 use Rattle.mmc1.specs.declared.Register.{Register}
 use Rattle.mmc1.specs.declared.Register.the-variants.{Control, Chr0, Chr1, Prg}
 use Rattle.boards.specs.Numbers.{refusedBy, readNumber, writeNumber, clockNumber, loadNumber}
@@ -12,8 +14,7 @@ use Rattle.boards.specs.Runs.Answer.{toRead, toWrite, toClock}
 use Rattle.boards.specs.declared.Loaded.{Loaded}
 use Rattle.laws.specs.Calls.{Event, loadWith, call}
 use Rattle.laws.specs.Calls.Event.{reads, writes, clocks}
-use Rattle.laws.specs.Loads.{Done, loads}
-use Rattle.laws.specs.Loads.Done.{nothing, load}
+use Rattle.laws.specs.Loads.{moves}
 
 -- a header: PRG count, CHR count, bytes 6 and 7
 abbrev pub header : ℕ → ℕ → ℕ → ℕ → List ℕ
@@ -57,20 +58,22 @@ registerNumber Chr1 = 2
 registerNumber Prg = 3
 
 -- the loads alone: for each its register, then its five bits
-abbrev pub listed : List Done → List ℕ
+abbrev pub listed : List Move → List ℕ
 listed [] = []
-listed (nothing ∷ ds) = listed ds
-listed (load w v ∷ ds) = registerNumber w ∷ v ∷ listed ds
+listed (Nothing ∷ ks) = listed ks
+listed (Clear ∷ ks) = listed ks
+listed (Enter s ∷ ks) = listed ks
+listed (Fill w v ∷ ks) = registerNumber w ∷ v ∷ listed ks
 
 -- the answer to a question
 abbrev pub answerTo : Question → List ℕ
 answerTo (whenLoaded mode s) = loadNumber (loadOf mode s .answer) ∷ []
 answerTo (whenPlayed mode s es) = map answerNumber (answers (loadOf mode s .board) (map (call (lent s)) es))
-answerTo (loadsOf mode s es) = listed (loads (loadOf mode s .board) (map (call (lent s)) es))
+answerTo (loadsOf mode s es) = listed (moves (loadOf mode s .board) (map (call (lent s)) es))
 answerTo (modesAfter mode s es) =
-    let r = after (loadOf mode s .board) (map (call (lent s)) es) .mmc1 .regs in
+    let r = after (loadOf mode s .board) (map (call (lent s)) es) .registers .mmc1 .regs in
     r .prgmode ∷ r .chrmode ∷ []
-answerTo (prgAfter mode s es) = after (loadOf mode s .board) (map (call (lent s)) es) .mmc1 .regs .prg ∷ []
+answerTo (prgAfter mode s es) = after (loadOf mode s .board) (map (call (lent s)) es) .registers .mmc1 .regs .prg ∷ []
 
 -- a row: what is asked, and what is wanted
 pub record Row : Type 0 where

@@ -5,14 +5,15 @@ use mathlib.Core.Bool.{Bool, true, false, cond}
 use mathlib.Core.List.{List, [], _∷_}
 use lib.ListN.{getD, take}
 use Rattle.common.specs.Common.{isSigned}
+use Rattle.mmc1.specs.declared.Move.{Move}
+use Rattle.mmc1.specs.declared.Move.the-variants.{Nothing, Clear, Enter, Fill}
 use Rattle.mmc1.specs.declared.Register.{Register}
 use Rattle.mmc1.specs.declared.Register.the-variants.{Control, Chr0, Chr1, Prg}
 use Rattle.boards.specs.Runs.{Lent, Call, next, after, answers}
-use Rattle.boards.specs.Runs.Call.{read, write, clock}
+use Rattle.boards.specs.Runs.Call.{write}
 use Rattle.boards.specs.declared.Board.{Board}
 use Rattle.laws.specs.Calls.{Write, Event, played, leftAfter}
-use Rattle.laws.specs.Loads.{Done, accepts, isSerial, loads}
-use Rattle.laws.specs.Loads.Done.{nothing, load}
+use Rattle.laws.specs.Loads.{accepts, moves}
 
 -- the board accepts the write, and it is "a write with bit 7 set to 8000-FFFF"
 pub record Clears (w : Write) (b : Board) : Type 0 where
@@ -24,29 +25,30 @@ pub record Clears (w : Write) (b : Board) : Type 0 where
 abbrev pub cleared : Write → Board → Board
 cleared w b = next b (write (w .lent) (w .address) (w .byte))
 
--- "complete loads": what the call at a position completes; a refused write completes nothing
-abbrev pub doneAt : Board → List Call → ℕ → Done
-doneAt b cs i = getD (loads b cs) i nothing
+-- what the call at a position does
+abbrev pub moveAt : Board → List Call → ℕ → Move
+moveAt b cs i = getD (moves b cs) i Nothing
 
--- "serial write": an accepted write to 8000-FFFF without bit 7
-abbrev pub isSerialWrite : Board → Call → Bool
-isSerialWrite b (read l a) = false
-isSerialWrite b (write l a v) = isSerial b l a v
-isSerialWrite b clock = false
+-- "serial write": a bit enters, or it is the fifth and fills a register
+abbrev pub isSerial : Move → Bool
+isSerial Nothing = false
+isSerial Clear = false
+isSerial (Enter s) = true
+isSerial (Fill r v) = true
 
--- how many of the calls are serial writes
-abbrev pub serialWrites : Board → List Call → ℕ
-serialWrites b [] = 0
-serialWrites b (c ∷ cs) = cond (isSerialWrite b c) 1 0 + serialWrites (next b c) cs
+-- how many of the moves are
+abbrev pub serialWrites : List Move → ℕ
+serialWrites [] = 0
+serialWrites (k ∷ ks) = cond (isSerial k) 1 0 + serialWrites ks
 
 -- "control bit 4", which is the CHR mode, as it stands when the call at a position is made
 abbrev pub bit4At : Board → List Call → ℕ → ℕ
-bit4At b cs i = after b (take i cs) .mmc1 .regs .chrmode
+bit4At b cs i = after b (take i cs) .registers .mmc1 .regs .chrmode
 
 -- "a control load", "a CHR 0 load" and so on: the call at a position completes a load of that register
 pub record LoadsAt (b : Board) (cs : List Call) (r : Register) (i : ℕ) : Type 0 where
   pub bits : ℕ
-  pub done : doneAt b cs i ≡ load r bits
+  pub done : moveAt b cs i ≡ Fill r bits
 
 -- "a control load, after it a CHR 0 load and a CHR 1 load made while control bit 4 is set, and anywhere a PRG load": the positions of the four
 pub record Settled (b : Board) (cs : List Call) : Type 0 where
@@ -66,14 +68,14 @@ pub record Settled (b : Board) (cs : List Call) : Type 0 where
 pub record Agree (b d : Board) : Type 0 where
   pub cart : b .cart ≡ d .cart
   pub mirroring : b .mirroring ≡ d .mirroring
-  pub mmc1 : b .mmc1 ≡ d .mmc1
+  pub mmc1 : b .registers .mmc1 ≡ d .registers .mmc1
 
 -- what demand 3 says of two boards that accepted such a write, and of the calls that they get then
 pub record Settles (b d : Board) (cs ds : List Call) : Type 0 where
-  -- "The same writes complete loads, in the same registers, with the same five bits"
-  pub the-same-loads : loads b cs ≡ loads d ds
+  -- "The same writes complete loads, in the same registers, with the same five bits": all moves are the same
+  pub the-same-loads : moves b cs ≡ moves d ds
   -- "and none before the fifth serial write": up to and with the call that completes one there are at least five
-  pub none-before-the-fifth : (i : ℕ) (r : Register) → LoadsAt b cs r i → 5 ≤ serialWrites b (take (i + 1) cs)
+  pub none-before-the-fifth : (i : ℕ) (r : Register) → LoadsAt b cs r i → 5 ≤ serialWrites (take (i + 1) (moves b cs))
   -- "Once there have been a control load, ..": "the boards agree in all that answers depend on"
   pub the-boards-agree : Settled b cs → Agree (after b cs) (after d ds)
   -- "so with equal RAM bytes all later answers agree (reads with their refusals, notices, clocks)": each event is lent what the one before left

@@ -1,9 +1,10 @@
 -- Demand 3, MMC3: two boards of one image and mode that accept the same latch, reload, enable and clock agree on every IRQ answer from that clock on.
-use Prim.Native.Nat.{ℕ, _%_}
+use Prim.Native.Nat.{ℕ}
 use mathlib.Core.Path.{_≡_}
-use mathlib.Core.Bool.{Bool, true, not, _&&_}
+use mathlib.Core.Bool.{true}
 use mathlib.Core.List.{List, [], _∷_}
-use lib.Dec.{ltb, eqb}
+use Rattle.mmc3.specs.Write.{moveOf}
+use Rattle.mmc3.specs.declared.Move.the-variants.{Latch, Reload, Enable}
 use Rattle.boards.specs.Clock as clocks
 use Rattle.boards.specs.Runs.{Lent, Call, next, after}
 use Rattle.boards.specs.Runs.Call.{read, write, clock}
@@ -11,18 +12,6 @@ use Rattle.boards.specs.declared.Board.{Board}
 use Rattle.boards.specs.declared.ClockAnswer.{ClockAnswer}
 use Rattle.laws.specs.Calls.{Write, wipedLent}
 use Rattle.laws.specs.Loads.{accepts}
-
--- an even write to C000-DFFF
-abbrev pub isLatch : ℕ → Bool
-isLatch a = eqb (a % 2) 0 && not (ltb a 0xC000) && ltb a 0xE000
-
--- an odd write to C000-DFFF
-abbrev pub isReload : ℕ → Bool
-isReload a = not (eqb (a % 2) 0) && not (ltb a 0xC000) && ltb a 0xE000
-
--- an odd write to E000-FFFF
-abbrev pub isEnable : ℕ → Bool
-isEnable a = not (eqb (a % 2) 0) && not (ltb a 0xE000)
 
 -- the IRQ answers of a list of calls
 abbrev pub irqAnswers : Board → List Call → List ClockAnswer
@@ -51,9 +40,9 @@ armed b w = next (reloaded b w) (write (w .enable .lent) (w .enable .address) (w
 
 -- they go to the latch, the reload mark and the enable, and the board accepts each; the clock has no line: a clock of a board in range is never refused
 pub record Accepts (b : Board) (w : Arming) : Type 0 where
-  pub is-latch : isLatch (w .latch .address) ≡ true
-  pub is-reload : isReload (w .reload .address) ≡ true
-  pub is-enable : isEnable (w .enable .address) ≡ true
+  pub is-latch : moveOf (w .latch .byte) (w .latch .address) ≡ Latch (w .latch .byte)
+  pub is-reload : moveOf (w .reload .byte) (w .reload .address) ≡ Reload
+  pub is-enable : moveOf (w .enable .byte) (w .enable .address) ≡ Enable
   pub latch : accepts b (w .latch .lent) (w .latch .address) ≡ true
   pub reload : accepts (latched b w) (w .reload .lent) (w .reload .address) ≡ true
   pub enable : accepts (reloaded b w) (w .enable .lent) (w .enable .address) ≡ true

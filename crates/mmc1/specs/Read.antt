@@ -1,6 +1,6 @@
 -- MMC1: where a read and a write land.
-use Prim.Native.Nat.{ℕ, _+_, _-_, _*_, _/_}
-use mathlib.Core.Bool.{cond}
+use Prim.Native.Nat.{ℕ, _+_, _*_, _/_, _%_}
+use mathlib.Core.Bool.{Bool, cond}
 use mathlib.Core.List.{List}
 use lib.Dec.{ltb, eqb}
 use Rattle.common.specs.Common.{KB4, KB16}
@@ -9,11 +9,16 @@ use Rattle.common.specs.declared.Mode.the-variants.{House, Board}
 use Rattle.banks.specs.Banks.{bankStart, bankOf}
 use Rattle.cartridge.specs.Load.{lastPrg, prgTotal, chrTotal, prgRom, chrData}
 use Rattle.cartridge.specs.declared.Cartridge.{Cartridge}
-use Rattle.places.specs.Places.{prgPlace, chrPlace, housePpuWrite}
+use Rattle.places.specs.Places.{prgPlace, chrPlace, inWindows, housePpuWrite}
 use Rattle.places.specs.declared.Place.{Place}
-use Rattle.places.specs.declared.Place.the-variants.{PrgRam, Zero}
+use Rattle.places.specs.declared.Place.the-variants.{Zero}
+use Rattle.mmc1.specs.Write.{switches8Kb}
 use Rattle.mmc1.specs.declared.Regs.{Regs}
 use Rattle.mmc1.specs.declared.Mmc1.{Mmc1}
+
+-- "PRG modes 0 and 1"
+abbrev pub switches32Kb : ℕ → Bool
+switches32Kb prgmode = ltb prgmode 2
 
 -- PRG modes 0 and 1, house: "p/2 .. with p halved down"; board: "clear p's low bit and show that bank and the next"
 unfoldable pub prgPair : Mode → ℕ → ℕ
@@ -27,57 +32,53 @@ chrPair Board n = n / 2 * 2
 
 -- "PRG modes 0 and 1: 16 KB banks p/2 and p/2 + 1 ..; mode 2: bank 0, then p; mode 3: p, then last"
 unfoldable pub lowerPrg : Mode → Regs → ℕ
-lowerPrg mode r = cond (ltb (r .prgmode) 2) (prgPair mode (r .prg)) (cond (eqb (r .prgmode) 2) 0 (r .prg))
+lowerPrg mode r = cond (switches32Kb (r .prgmode)) (prgPair mode (r .prg)) (cond (eqb (r .prgmode) 2) 0 (r .prg))
 
 -- the second bank of the same sentence
 unfoldable pub upperPrg : Mode → Regs → ℕ → ℕ
-upperPrg mode r last = cond (ltb (r .prgmode) 2) (prgPair mode (r .prg) + 1) (cond (eqb (r .prgmode) 2) (r .prg) last)
+upperPrg mode r last = cond (switches32Kb (r .prgmode)) (prgPair mode (r .prg) + 1) (cond (eqb (r .prgmode) 2) (r .prg) last)
 
 -- "PPU lower half: 4 KB bank CHR 0"
 unfoldable pub lowerChr : Mode → Regs → ℕ
-lowerChr mode r = cond (eqb (r .chrmode) 0) (chrPair mode (r .chr0)) (r .chr0)
+lowerChr mode r = cond (switches8Kb (r .chrmode)) (chrPair mode (r .chr0)) (r .chr0)
 
 -- "Upper half: CHR 0 + 1 in 8 KB mode, else CHR 1"
 unfoldable pub upperChr : Mode → Regs → ℕ
-upperChr mode r = cond (eqb (r .chrmode) 0) (chrPair mode (r .chr0) + 1) (r .chr1)
+upperChr mode r = cond (switches8Kb (r .chrmode)) (chrPair mode (r .chr0) + 1) (r .chr1)
 
--- the places that these banks show
-unfoldable pub lowerPrgPlace : Mmc1 → Cartridge → ℕ → Place
-lowerPrgPlace m c at = prgPlace c KB16 (lowerPrg (c .mode) (m .regs)) at
+-- the bank that a PPU address is in
+unfoldable pub chrBank : Mmc1 → Cartridge → ℕ → ℕ
+chrBank m c a = cond (ltb a 0x1000) (lowerChr (c .mode) (m .regs)) (upperChr (c .mode) (m .regs))
 
--- C000-FFFF
-unfoldable pub upperPrgPlace : Mmc1 → Cartridge → ℕ → Place
-upperPrgPlace m c at = prgPlace c KB16 (upperPrg (c .mode) (m .regs) (lastPrg c)) at
+-- the bank that an address in 8000-FFFF is in
+unfoldable pub prgBank : Mmc1 → Cartridge → ℕ → ℕ
+prgBank m c a = cond (ltb a 0xC000) (lowerPrg (c .mode) (m .regs)) (upperPrg (c .mode) (m .regs) (lastPrg c))
 
--- PPU lower half
-unfoldable pub lowerChrPlace : Mmc1 → Cartridge → ℕ → Place
-lowerChrPlace m c at = chrPlace c KB4 (lowerChr (c .mode) (m .regs)) at
+-- the byte of that bank
+unfoldable pub chrAt : Mmc1 → Cartridge → ℕ → Place
+chrAt m c a = chrPlace c KB4 (chrBank m c a) (a % 4096)
 
--- PPU upper half
-unfoldable pub upperChrPlace : Mmc1 → Cartridge → ℕ → Place
-upperChrPlace m c at = chrPlace c KB4 (upperChr (c .mode) (m .regs)) at
+-- the same for PRG
+unfoldable pub prgAt : Mmc1 → Cartridge → ℕ → Place
+prgAt m c a = prgPlace c KB16 (prgBank m c a) (a % 16384)
 
--- "6000-7FFF is PRG RAM"; "Not mentioned: a read answers 0"
+-- where a read lands
 unfoldable pub readPlace : Mmc1 → Cartridge → ℕ → Place
-readPlace m c a =
-    cond (ltb a 0x1000) (lowerChrPlace m c a)
-    (cond (ltb a 0x2000) (upperChrPlace m c (a - 0x1000))
-    (cond (ltb a 0x6000) Zero
-    (cond (ltb a 0x8000) (PrgRam (a - 0x6000))
-    (cond (ltb a 0xC000) (lowerPrgPlace m c (a - 0x8000))
-    (upperPrgPlace m c (a - 0xC000))))))
+readPlace m c a = inWindows (chrAt m c a) (prgAt m c a) a
 
--- house: "PPU writes go to CHR RAM unbanked"
-unfoldable pub houseWritePlace : Cartridge → ℕ → Place
-houseWritePlace c a =
-    cond (ltb a 0x2000) (housePpuWrite c a)
-    (cond (ltb a 0x6000) Zero
-    (cond (ltb a 0x8000) (PrgRam (a - 0x6000)) Zero))
+-- house: "PPU writes go to CHR RAM unbanked"; board: "CHR RAM is read and written through the banks, on all boards"
+unfoldable pub ppuWriteIn : Mode → Mmc1 → Cartridge → ℕ → Place
+ppuWriteIn House m c a = housePpuWrite c a
+ppuWriteIn Board m c a = chrAt m c a
 
--- board: "CHR RAM is read and written through the banks, on all boards"
+-- house: no byte lands; board: where it would be read
+unfoldable pub romWriteIn : Mode → Mmc1 → Cartridge → ℕ → Place
+romWriteIn House m c a = Zero
+romWriteIn Board m c a = prgAt m c a
+
+-- where a write lands in each mode
 unfoldable pub writePlaceIn : Mode → Mmc1 → Cartridge → ℕ → Place
-writePlaceIn House m c a = houseWritePlace c a
-writePlaceIn Board m c a = readPlace m c a
+writePlaceIn mode m c a = inWindows (ppuWriteIn mode m c a) (romWriteIn mode m c a) a
 
 -- in the mode that the cartridge has
 abbrev pub writePlace : Mmc1 → Cartridge → ℕ → Place

@@ -1,8 +1,7 @@
 // MMC1: a serial register and the four registers that it loads. Ported from potatis nes/src/mappers/mmc1.rs.
 ghost use mathlib.Core.Path.{_≡_};
-ghost use Prim.Native.Nat.{_-_, _^_};
-ghost use Rattle.mmc1.specs.Write.{shifted, entered, registerAt, controlMirroring, mirrorsOf, controlled, withChr0, withChr1, withPrg, houseChr0, houseChr1, houseLoad, boardLoad, load, reset, resetAll, kept, completed, shiftedIn, serialWrite, written};
-ghost use Rattle.mmc1.specs.Read.{prgPair, chrPair, lowerPrg, upperPrg, lowerChr, upperChr, lowerPrgPlace, upperPrgPlace, lowerChrPlace, upperChrPlace, lowerPrgBank, upperPrgBank, lowerChrBank, upperChrBank, readPlace, houseWritePlace, writePlace};
+ghost use Rattle.mmc1.specs.Write.{shifted, registerAt, moveOf, reset, switches8Kb, storedChr0, storedChr1, load, applied, controlMirroring, mirrorsOf, written};
+ghost use Rattle.mmc1.specs.Read.{switches32Kb, prgPair, chrPair, lowerPrg, upperPrg, lowerChr, upperChr, chrBank, prgBank, chrAt, prgAt, lowerPrgBank, upperPrgBank, lowerChrBank, upperChrBank, readPlace, writePlace};
 ghost use Rattle.mmc1.specs.Range.{start, unused, isUnused, serialFits, regsFits, fits};
 ghost use Rattle.places.specs.Places.{byteOf};
 use banks::Bank4K;
@@ -43,6 +42,14 @@ pub enum Register {
     Prg,
 }
 
+// What a write does. The fifth bit fills a register with five bits.
+pub enum Move {
+    Nothing,
+    Clear,
+    Enter(Serial),
+    Fill(Register, u8),
+}
+
 // The board after a write, and what the write asks of the screens.
 pub struct Wrote {
     pub mmc1: Mmc1,
@@ -74,27 +81,6 @@ fn control_mirroring(bits: u8) -> Mirroring
     }
 }
 
-fn mirrors_of(register: Register, bits: u8) -> Mirrors
-    ensures { λ r. ⌜ r ≡ mirrorsOf register bits ⌝ }
-{
-    match register {
-        Register::Control => Mirrors::As(control_mirroring(bits)),
-        Register::Chr0 => Mirrors::AsBefore,
-        Register::Chr1 => Mirrors::AsBefore,
-        Register::Prg => Mirrors::AsBefore,
-    }
-}
-
-// A write that asks nothing of the screens.
-fn kept(mmc1: Mmc1) -> Wrote
-    ensures { λ r. ⌜ r ≡ kept mmc1 ⌝ }
-{
-    Wrote {
-        mmc1,
-        mirrors: Mirrors::AsBefore,
-    }
-}
-
 impl Serial {
     // Least bit first: the new bit enters as bit 4, the others move down.
     fn shifted(self, value: u8) -> u8
@@ -103,176 +89,186 @@ impl Serial {
         self.value / 2 + 16 * (value % 2)
     }
 
+    // What the Rust's write_to_shift_register does, as a value. Only the fifth address chooses the register.
+    pub fn move_of(self, value: u8, address: u16) -> Move
+        ensures { λ r. ⌜ r ≡ moveOf self value address ⌝ }
+    {
+        let count = self.count;
+        let shifted = self.shifted(value);
+        if address < 0x8000 {
+            Move::Nothing
+        } else if bits::is_signed(value) {
+            Move::Clear
+        } else if count < 4 {
+            Move::Enter(Serial {
+                count: count + 1,
+                value: shifted,
+            })
+        } else {
+            Move::Fill(register_at(address), shifted)
+        }
+    }
+
+    // `count` places further up, a multiple of 2^(5 - count) has left the five bits.
     pub fn fits(self) -> bool
         ensures { λ r. ⌜ r ≡ serialFits self ⌝ }
     {
-        (self.count < 5) & (self.value < 32) & (self.value % unit(self.count) == 0)
+        (self.count < 5) & (self.value < 32) & ((self.value << (self.count % 8)) % 32 == 0)
     }
 }
 
-// 2^(5 - count): what the value of a serial register with `count` bits is a multiple of.
-fn unit(count: u8) -> u8
-    ensures { λ r. ⌜ r ≡ 2 ^ (5 - count) ⌝ }
-{
-    if count == 0 {
-        32
-    } else if count == 1 {
-        16
-    } else if count == 2 {
-        8
-    } else if count == 3 {
-        4
-    } else if count == 4 {
-        2
-    } else {
-        1
-    }
-}
-
-impl Regs {
-    fn update_control_register(self, bits: u8) -> Regs
-        ensures { λ r. ⌜ r ≡ controlled self bits ⌝ }
+impl Move {
+    pub fn applied(self, mode: Mode, mmc1: Mmc1) -> Mmc1
+        ensures { λ r. ⌜ r ≡ applied mode self mmc1 ⌝ }
     {
-        Regs {
-            prgmode: bits / 4 % 4,
-            chrmode: bits / 16 % 2,
-            chr0: self.chr0,
-            chr1: self.chr1,
-            prg: self.prg,
-        }
-    }
-
-    fn with_chr0(mut self, bank: u8) -> Regs
-        ensures { λ r. ⌜ r ≡ withChr0 self bank ⌝ }
-    {
-        self.chr0 = bank;
-        self
-    }
-
-    fn with_chr1(mut self, bank: u8) -> Regs
-        ensures { λ r. ⌜ r ≡ withChr1 self bank ⌝ }
-    {
-        self.chr1 = bank;
-        self
-    }
-
-    fn with_prg(mut self, bits: u8) -> Regs
-        ensures { λ r. ⌜ r ≡ withPrg self bits ⌝ }
-    {
-        self.prg = bits % 16;
-        self
-    }
-
-    // House mode: stored halved in 8 KB mode.
-    fn switch_lower_chr_bank(self, bits: u8) -> Regs
-        ensures { λ r. ⌜ r ≡ houseChr0 self bits ⌝ }
-    {
-        if self.chrmode == 0 {
-            self.with_chr0(bits / 2)
-        } else {
-            self.with_chr0(bits)
-        }
-    }
-
-    // House mode: ignored in 8 KB mode.
-    fn switch_upper_chr_bank(self, bits: u8) -> Regs
-        ensures { λ r. ⌜ r ≡ houseChr1 self bits ⌝ }
-    {
-        if self.chrmode == 0 {
-            self
-        } else {
-            self.with_chr1(bits)
-        }
-    }
-
-    fn house_load(self, register: Register, bits: u8) -> Regs
-        ensures { λ r. ⌜ r ≡ houseLoad self register bits ⌝ }
-    {
-        match register {
-            Register::Control => self.update_control_register(bits),
-            Register::Chr0 => self.switch_lower_chr_bank(bits),
-            Register::Chr1 => self.switch_upper_chr_bank(bits),
-            Register::Prg => self.with_prg(bits),
-        }
-    }
-
-    fn board_load(self, register: Register, bits: u8) -> Regs
-        ensures { λ r. ⌜ r ≡ boardLoad self register bits ⌝ }
-    {
-        match register {
-            Register::Control => self.update_control_register(bits),
-            Register::Chr0 => self.with_chr0(bits),
-            Register::Chr1 => self.with_chr1(bits),
-            Register::Prg => self.with_prg(bits),
-        }
-    }
-
-    fn load(self, mode: Mode, register: Register, bits: u8) -> Regs
-        ensures { λ r. ⌜ r ≡ load mode self register bits ⌝ }
-    {
-        match mode {
-            Mode::House => self.house_load(register, bits),
-            Mode::Board => self.board_load(register, bits),
-        }
-    }
-
-    // A write with bit 7 sets PRG mode 3 on the real board, and in the Rust no register.
-    fn reset(self, mode: Mode) -> Regs
-        ensures { λ r. ⌜ r ≡ reset mode self ⌝ }
-    {
-        match mode {
-            Mode::House => self,
-            Mode::Board => Regs {
-                prgmode: 3,
-                chrmode: self.chrmode,
-                chr0: self.chr0,
-                chr1: self.chr1,
-                prg: self.prg,
+        let regs = mmc1.regs;
+        match self {
+            Move::Nothing => mmc1,
+            Move::Clear => Mmc1 {
+                serial: Serial { count: 0, value: 0 },
+                regs: regs.reset(mode),
+            },
+            Move::Enter(serial) => Mmc1 { serial, regs },
+            Move::Fill(register, bits) => Mmc1 {
+                serial: Serial { count: 0, value: 0 },
+                regs: regs.load(mode, register, bits),
             },
         }
     }
 
-    fn lower_prg(self, mode: Mode) -> u32
-        ensures { λ r. ⌜ r ≡ lowerPrg mode self ⌝ }
+    // What it asks of the screens.
+    pub fn mirrors(self) -> Mirrors
+        ensures { λ r. ⌜ r ≡ mirrorsOf self ⌝ }
     {
-        if self.prgmode < 2 {
-            prg_pair(mode, self.prg) as u32
+        match self {
+            Move::Nothing => Mirrors::AsBefore,
+            Move::Clear => Mirrors::AsBefore,
+            Move::Enter(_) => Mirrors::AsBefore,
+            Move::Fill(register, bits) => match register {
+                Register::Control => Mirrors::As(control_mirroring(bits)),
+                Register::Chr0 => Mirrors::AsBefore,
+                Register::Chr1 => Mirrors::AsBefore,
+                Register::Prg => Mirrors::AsBefore,
+            },
+        }
+    }
+}
+
+impl Regs {
+    // PRG modes 0 and 1 switch 32 KB at once; mode 2 fixes the first bank below, mode 3 the last above.
+    fn switches_32kb(self) -> bool
+        ensures { λ r. ⌜ r ≡ switches32Kb (self .prgmode) ⌝ }
+    {
+        self.prgmode < 2
+    }
+
+    // CHR mode 0 switches 8 KB at once, mode 1 two banks of 4 KB.
+    fn switches_8kb(self) -> bool
+        ensures { λ r. ⌜ r ≡ switches8Kb (self .chrmode) ⌝ }
+    {
+        self.chrmode == 0
+    }
+
+    // The Rust's switch_lower_chr_bank halves in 8 KB mode; the real board stores every bit.
+    fn stored_chr0(self, mode: Mode, bits: u8) -> u8
+        ensures { λ r. ⌜ r ≡ storedChr0 mode (self .chrmode) bits ⌝ }
+    {
+        match mode {
+            Mode::House => if self.switches_8kb() { bits / 2 } else { bits },
+            Mode::Board => bits,
+        }
+    }
+
+    // Its switch_upper_chr_bank leaves the register alone in 8 KB mode.
+    fn stored_chr1(self, mode: Mode, bits: u8) -> u8
+        ensures { λ r. ⌜ r ≡ storedChr1 mode (self .chrmode) (self .chr1) bits ⌝ }
+    {
+        match mode {
+            Mode::House => if self.switches_8kb() { self.chr1 } else { bits },
+            Mode::Board => bits,
+        }
+    }
+
+    fn load(mut self, mode: Mode, register: Register, bits: u8) -> Regs
+        ensures { λ r. ⌜ r ≡ load mode self register bits ⌝ }
+    {
+        match register {
+            Register::Control => {
+                self.prgmode = bits / 4 % 4;
+                self.chrmode = bits / 16 % 2;
+                self
+            }
+            Register::Chr0 => {
+                let bank = self.stored_chr0(mode, bits);
+                self.chr0 = bank;
+                self
+            }
+            Register::Chr1 => {
+                let bank = self.stored_chr1(mode, bits);
+                self.chr1 = bank;
+                self
+            }
+            Register::Prg => {
+                self.prg = bits % 16;
+                self
+            }
+        }
+    }
+
+    // A write with bit 7 sets PRG mode 3 on the real board, and in the Rust no register.
+    fn reset(mut self, mode: Mode) -> Regs
+        ensures { λ r. ⌜ r ≡ reset mode self ⌝ }
+    {
+        match mode {
+            Mode::House => self,
+            Mode::Board => {
+                self.prgmode = 3;
+                self
+            }
+        }
+    }
+
+    fn lower_prg(self, mode: Mode) -> Bank16K
+        ensures { λ r. ⌜ r .0 ≡ lowerPrg mode self ⌝ }
+    {
+        if self.switches_32kb() {
+            Bank16K(prg_pair(mode, self.prg) as u32)
         } else if self.prgmode == 2 {
-            0
+            Bank16K(0)
         } else {
-            self.prg as u32
+            Bank16K(self.prg as u32)
         }
     }
 
-    fn upper_prg(self, mode: Mode, last: u32) -> u32
-        ensures { λ r. ⌜ r ≡ upperPrg mode self last ⌝ }
+    fn upper_prg(self, mode: Mode, last: u32) -> Bank16K
+        ensures { λ r. ⌜ r .0 ≡ upperPrg mode self last ⌝ }
     {
-        if self.prgmode < 2 {
-            (prg_pair(mode, self.prg) as u32) + 1
+        if self.switches_32kb() {
+            Bank16K((prg_pair(mode, self.prg) as u32) + 1)
         } else if self.prgmode == 2 {
-            self.prg as u32
+            Bank16K(self.prg as u32)
         } else {
-            last
+            Bank16K(last)
         }
     }
 
-    fn lower_chr(self, mode: Mode) -> u32
-        ensures { λ r. ⌜ r ≡ lowerChr mode self ⌝ }
+    fn lower_chr(self, mode: Mode) -> Bank4K
+        ensures { λ r. ⌜ r .0 ≡ lowerChr mode self ⌝ }
     {
-        if self.chrmode == 0 {
-            chr_pair(mode, self.chr0) as u32
+        if self.switches_8kb() {
+            Bank4K(chr_pair(mode, self.chr0) as u32)
         } else {
-            self.chr0 as u32
+            Bank4K(self.chr0 as u32)
         }
     }
 
-    fn upper_chr(self, mode: Mode) -> u32
-        ensures { λ r. ⌜ r ≡ upperChr mode self ⌝ }
+    fn upper_chr(self, mode: Mode) -> Bank4K
+        ensures { λ r. ⌜ r .0 ≡ upperChr mode self ⌝ }
     {
-        if self.chrmode == 0 {
-            (chr_pair(mode, self.chr0) as u32) + 1
+        if self.switches_8kb() {
+            Bank4K((chr_pair(mode, self.chr0) as u32) + 1)
         } else {
-            self.chr1 as u32
+            Bank4K(self.chr1 as u32)
         }
     }
 
@@ -304,16 +300,6 @@ fn chr_pair(mode: Mode, chr0: u8) -> u8
     match mode {
         Mode::House => chr0,
         Mode::Board => chr0 / 2 * 2,
-    }
-}
-
-fn house_write_place(cart: Cartridge, address: u16) -> Place
-    ensures { λ r. ⌜ r ≡ houseWritePlace cart address ⌝ }
-{
-    match address {
-        0x0000..=0x1fff => places::house_ppu_write(cart, address),
-        0x6000..=0x7fff => Place::PrgRam((address - 0x6000) as usize),
-        _ => Place::Zero,
     }
 }
 
@@ -372,138 +358,79 @@ impl Mmc1 {
         serial.fits() & regs.fits()
     }
 
-    fn reset_shift_register(self, mode: Mode) -> Wrote
-        ensures { λ r. ⌜ r ≡ resetAll mode self ⌝ }
-    {
-        let regs = self.regs;
-        kept(Mmc1 {
-            serial: Serial { count: 0, value: 0 },
-            regs: regs.reset(mode),
-        })
-    }
-
-    fn enter(self, count: u8, bits: u8) -> Wrote
-        ensures { λ r. ⌜ r ≡ entered self count bits ⌝ }
-    {
-        let regs = self.regs;
-        kept(Mmc1 {
-            serial: Serial { count, value: bits },
-            regs,
-        })
-    }
-
-    fn complete(self, mode: Mode, register: Register, bits: u8) -> Wrote
-        ensures { λ r. ⌜ r ≡ completed mode self register bits ⌝ }
-    {
-        let regs = self.regs;
-        Wrote {
-            mmc1: Mmc1 {
-                serial: Serial { count: 0, value: 0 },
-                regs: regs.load(mode, register, bits),
-            },
-            mirrors: mirrors_of(register, bits),
-        }
-    }
-
-    // The fifth bit completes a load chosen by its address.
-    fn shift_in(self, mode: Mode, value: u8, address: u16) -> Wrote
-        ensures { λ r. ⌜ r ≡ shiftedIn mode self value address ⌝ }
-    {
-        let serial = self.serial;
-        let count = serial.count;
-        let bits = serial.shifted(value);
-        if count < 4 {
-            self.enter(count + 1, bits)
-        } else {
-            self.complete(mode, register_at(address), bits)
-        }
-    }
-
-    fn write_to_shift_register(self, mode: Mode, value: u8, address: u16) -> Wrote
-        ensures { λ r. ⌜ r ≡ serialWrite mode self value address ⌝ }
-    {
-        if bits::is_signed(value) {
-            self.reset_shift_register(mode)
-        } else {
-            self.shift_in(mode, value, address)
-        }
-    }
-
     pub fn write8(self, mode: Mode, value: u8, address: u16) -> Wrote
         ensures { λ r. ⌜ r ≡ written mode self value address ⌝ }
     {
-        match address {
-            0x8000..=0xffff => self.write_to_shift_register(mode, value, address),
-            _ => kept(self),
+        let serial = self.serial;
+        let made = serial.move_of(value, address);
+        Wrote {
+            mmc1: made.applied(mode, self),
+            mirrors: made.mirrors(),
         }
     }
 
-    // Through the banks, as a read goes. Its own windows, so that the compiler makes read_place a part
-    // of the one call that reads.
-    fn board_write_place(self, cart: Cartridge, address: u16) -> Place
-        ensures { λ r. ⌜ r ≡ readPlace self cart address ⌝ }
+    fn chr_bank(self, cart: Cartridge, address: u16) -> Bank4K
+        ensures { λ r. ⌜ r .0 ≡ chrBank self cart address ⌝ }
     {
-        match address {
-            0x0000..=0x0fff => self.lower_chr_place(cart, address),
-            0x1000..=0x1fff => self.upper_chr_place(cart, address - 0x1000),
-            0x6000..=0x7fff => Place::PrgRam((address - 0x6000) as usize),
-            0x8000..=0xbfff => self.lower_prg_place(cart, address - 0x8000),
-            0xc000..=0xffff => self.upper_prg_place(cart, address - 0xc000),
-            _ => Place::Zero,
+        let regs = self.regs;
+        let mode = cart.mode;
+        if address < 0x1000 {
+            regs.lower_chr(mode)
+        } else {
+            regs.upper_chr(mode)
         }
     }
 
-    pub fn write_place(self, cart: Cartridge, address: u16) -> Place
-        ensures { λ r. ⌜ r ≡ writePlace self cart address ⌝ }
+    fn prg_bank(self, cart: Cartridge, address: u16) -> Bank16K
+        ensures { λ r. ⌜ r .0 ≡ prgBank self cart address ⌝ }
     {
+        let regs = self.regs;
         let mode = cart.mode;
-        match mode {
-            Mode::House => house_write_place(cart, address),
-            Mode::Board => self.board_write_place(cart, address),
+        if address < 0xc000 {
+            regs.lower_prg(mode)
+        } else {
+            regs.upper_prg(mode, cart.last_prg())
         }
     }
 
-    fn lower_prg_place(self, cart: Cartridge, at: u16) -> Place
-        ensures { λ r. ⌜ r ≡ lowerPrgPlace self cart at ⌝ }
+    fn read_chr(self, cart: Cartridge, address: u16) -> Place
+        ensures { λ r. ⌜ r ≡ chrAt self cart address ⌝ }
     {
-        let regs = self.regs;
-        let mode = cart.mode;
-        places::prg_place_16k(cart, Bank16K(regs.lower_prg(mode)), at)
+        places::chr_place_4k(cart, self.chr_bank(cart, address), address % 4096)
     }
 
-    fn upper_prg_place(self, cart: Cartridge, at: u16) -> Place
-        ensures { λ r. ⌜ r ≡ upperPrgPlace self cart at ⌝ }
+    fn read_prg(self, cart: Cartridge, address: u16) -> Place
+        ensures { λ r. ⌜ r ≡ prgAt self cart address ⌝ }
     {
-        let regs = self.regs;
-        let mode = cart.mode;
-        places::prg_place_16k(cart, Bank16K(regs.upper_prg(mode, cart.last_prg())), at)
-    }
-
-    fn lower_chr_place(self, cart: Cartridge, at: u16) -> Place
-        ensures { λ r. ⌜ r ≡ lowerChrPlace self cart at ⌝ }
-    {
-        let regs = self.regs;
-        let mode = cart.mode;
-        places::chr_place_4k(cart, Bank4K(regs.lower_chr(mode)), at)
-    }
-
-    fn upper_chr_place(self, cart: Cartridge, at: u16) -> Place
-        ensures { λ r. ⌜ r ≡ upperChrPlace self cart at ⌝ }
-    {
-        let regs = self.regs;
-        let mode = cart.mode;
-        places::chr_place_4k(cart, Bank4K(regs.upper_chr(mode)), at)
+        places::prg_place_16k(cart, self.prg_bank(cart, address), address % 16384)
     }
 
     pub fn read_place(self, cart: Cartridge, address: u16) -> Place
         ensures { λ r. ⌜ r ≡ readPlace self cart address ⌝ }
     {
         match address {
-            0x0000..=0x0fff => self.lower_chr_place(cart, address),
-            0x1000..=0x1fff => self.upper_chr_place(cart, address - 0x1000),
+            0x0000..=0x1fff => self.read_chr(cart, address),
             0x6000..=0x7fff => Place::PrgRam((address - 0x6000) as usize),
-            0x8000..=0xbfff => self.lower_prg_place(cart, address - 0x8000),
-            0xc000..=0xffff => self.upper_prg_place(cart, address - 0xc000),
+            0x8000..=0xffff => self.read_prg(cart, address),
+            _ => Place::Zero,
+        }
+    }
+
+    // Where a read of it would land on the real board, and by rules of its own in the Rust.
+    pub fn write_place(self, cart: Cartridge, address: u16) -> Place
+        ensures { λ r. ⌜ r ≡ writePlace self cart address ⌝ }
+    {
+        let mode = cart.mode;
+        match address {
+            0x0000..=0x1fff => match mode {
+                Mode::House => places::house_ppu_write(cart, address),
+                Mode::Board => self.read_chr(cart, address),
+            },
+            0x6000..=0x7fff => Place::PrgRam((address - 0x6000) as usize),
+            0x8000..=0xffff => match mode {
+                Mode::House => Place::Zero,
+                Mode::Board => self.read_prg(cart, address),
+            },
             _ => Place::Zero,
         }
     }
@@ -513,7 +440,7 @@ impl Mmc1 {
     {
         let regs = self.regs;
         let mode = cart.mode;
-        let start = Bank16K(regs.lower_prg(mode)).start(mode, cart.prg_total());
+        let start = regs.lower_prg(mode).start(mode, cart.prg_total());
         banks::bank_of(cart.prg_rom(image), start, kilobytes::KB16)
     }
 
@@ -522,7 +449,7 @@ impl Mmc1 {
     {
         let regs = self.regs;
         let mode = cart.mode;
-        let bank = Bank16K(regs.upper_prg(mode, cart.last_prg()));
+        let bank = regs.upper_prg(mode, cart.last_prg());
         banks::bank_of(
             cart.prg_rom(image),
             bank.start(mode, cart.prg_total()),
@@ -535,7 +462,7 @@ impl Mmc1 {
     {
         let regs = self.regs;
         let mode = cart.mode;
-        let start = Bank4K(regs.lower_chr(mode)).start(mode, cart.chr_total());
+        let start = regs.lower_chr(mode).start(mode, cart.chr_total());
         banks::bank_of(cart.chr_data(image, ram), start, kilobytes::KB4)
     }
 
@@ -544,7 +471,7 @@ impl Mmc1 {
     {
         let regs = self.regs;
         let mode = cart.mode;
-        let start = Bank4K(regs.upper_chr(mode)).start(mode, cart.chr_total());
+        let start = regs.upper_chr(mode).start(mode, cart.chr_total());
         banks::bank_of(cart.chr_data(image, ram), start, kilobytes::KB4)
     }
 

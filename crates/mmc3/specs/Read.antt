@@ -2,20 +2,21 @@
 use Prim.Native.Nat.{ℕ, _+_, _-_, _*_, _/_, _%_}
 use mathlib.Core.Bool.{cond, _&&_}
 use mathlib.Core.List.{List, [], _∷_}
-use lib.Dec.{ltb, eqb}
+use lib.Dec.{ltb, leb, eqb}
 use lib.ListN.{getD}
 use Rattle.common.specs.Common.{KB1, KB8}
 use Rattle.common.specs.declared.Mode.{Mode}
 use Rattle.common.specs.declared.Mode.the-variants.{House, Board}
 use Rattle.cartridge.specs.declared.Cartridge.{Cartridge}
 use Rattle.cartridge.specs.declared.Refusal.the-variants.{IrqPending}
-use Rattle.places.specs.Places.{prgPlace, chrPlace}
+use Rattle.places.specs.Places.{prgPlace, chrPlace, inWindows}
 use Rattle.places.specs.declared.Place.{Place}
-use Rattle.places.specs.declared.Place.the-variants.{PrgRam, Zero, Refused}
+use Rattle.places.specs.declared.Place.the-variants.{Zero, Refused}
 use Rattle.mmc3.specs.Clock.{isPending}
+use Rattle.mmc3.specs.Write.{isEven}
 use Rattle.mmc3.specs.declared.Mmc3.{Mmc3}
 
--- a register choice: Rn, and Rn + 1
+-- a register choice: Rn
 abbrev pub R : ℕ → ℕ
 R n = n * 2
 
@@ -42,7 +43,7 @@ register m k = getD (m .regs) k 0
 unfoldable pub chrBank : Mmc3 → ℕ → ℕ
 chrBank m slot = register m (choice (m .chrmode) slot / 2) + choice (m .chrmode) slot % 2
 
--- the last of the 8 KB PRG banks, and the last but one
+-- the last of the 8 KB PRG banks
 unfoldable pub lastBank : Cartridge → ℕ
 lastBank c = c .prg * 2 - 1
 
@@ -66,29 +67,27 @@ chrAt m c a = chrPlace c KB1 (chrBank m (a / 1024)) (a % 1024)
 unfoldable pub prgAt : Mmc3 → Cartridge → ℕ → Place
 prgAt m c a = prgPlace c KB8 (prgBank m c a) (a % 8192)
 
--- "6000-7FFF PRG RAM"
+-- where a read lands
 unfoldable pub readPlace : Mmc3 → Cartridge → ℕ → Place
-readPlace m c a =
-    cond (ltb a 0x2000) (chrAt m c a)
-    (cond (ltb a 0x6000) Zero
-    (cond (ltb a 0x8000) (PrgRam (a - 0x6000))
-    (prgAt m c a)))
+readPlace m c a = inWindows (chrAt m c a) (prgAt m c a) a
 
 -- refusal 14: "even address in E000-FFFF, IRQ enabled, counter 0 or 1"
 unfoldable pub acknowledged : Mmc3 → ℕ → Place
-acknowledged m a = cond (isPending (m .irq) && eqb (a % 2) 0) (Refused IrqPending) Zero
+acknowledged m a = cond (isPending (m .irq) && leb 0xE000 a && isEven a) (Refused IrqPending) Zero
 
--- house: "PPU writes do nothing, even with CHR RAM"
-unfoldable pub houseWritePlace : Mmc3 → ℕ → Place
-houseWritePlace m a =
-    cond (ltb a 0x6000) Zero
-    (cond (ltb a 0x8000) (PrgRam (a - 0x6000))
-    (cond (ltb a 0xE000) Zero (acknowledged m a)))
+-- house: "PPU writes do nothing, even with CHR RAM"; board: "CHR RAM is read and written through the banks, on all boards"
+unfoldable pub ppuWriteIn : Mode → Mmc3 → Cartridge → ℕ → Place
+ppuWriteIn House m c a = Zero
+ppuWriteIn Board m c a = chrAt m c a
 
--- board: "CHR RAM is read and written through the banks, on all boards"
+-- house: no byte lands, but 14 may be due; board: where it would be read
+unfoldable pub romWriteIn : Mode → Mmc3 → Cartridge → ℕ → Place
+romWriteIn House m c a = acknowledged m a
+romWriteIn Board m c a = prgAt m c a
+
+-- where a write lands in each mode
 unfoldable pub writePlaceIn : Mode → Mmc3 → Cartridge → ℕ → Place
-writePlaceIn House m c a = houseWritePlace m a
-writePlaceIn Board m c a = readPlace m c a
+writePlaceIn mode m c a = inWindows (ppuWriteIn mode m c a) (romWriteIn mode m c a) a
 
 -- in the mode that the cartridge has
 abbrev pub writePlace : Mmc3 → Cartridge → ℕ → Place

@@ -1,30 +1,42 @@
--- MMC3: what a write leaves, in both modes.
+-- MMC3: what a write does, in both modes: a move that its address and byte decide, applied to the board.
 use Prim.Native.Nat.{ℕ, _*_, _/_, _%_}
 use mathlib.Core.Bool.{Bool, true, false, cond}
 use lib.Dec.{ltb, leb, eqb}
 use lib.ListN.{set}
 use Rattle.cartridge.specs.declared.Mirroring.{Mirroring}
 use Rattle.cartridge.specs.declared.Mirroring.the-variants.{Horizontal, Vertical}
+use Rattle.cartridge.specs.declared.Mirrors.{Mirrors}
 use Rattle.cartridge.specs.declared.Mirrors.the-variants.{AsBefore, As}
 use Rattle.mmc3.specs.Clock.{withIrq}
 use Rattle.mmc3.specs.declared.Mmc3.{Mmc3}
+use Rattle.mmc3.specs.declared.Move.{Move}
+use Rattle.mmc3.specs.declared.Move.the-variants.{Nothing, Select, Data, Screens, Latch, Reload, Enable, Disable}
 use Rattle.mmc3.specs.declared.Wrote.{Wrote}
 
--- the board after a write that asks nothing of the screens
-unfoldable pub kept : Mmc3 → Wrote
-kept m = record { mmc3 = m; mirrors = AsBefore }
+-- "even"; what is not even is "odd"
+abbrev pub isEven : ℕ → Bool
+isEven a = eqb (a % 2) 0
 
--- "8000-9FFF even: bits 0-2 select, bit 6 PRG mode, bit 7 CHR mode"
-unfoldable pub selected : Mmc3 → ℕ → Mmc3
-selected m v = record { select = v % 8; prgmode = v / 64 % 2; chrmode = v / 128 % 2; regs = m .regs; irq = m .irq }
+-- "8000-9FFF even: .. select ..; Odd: data ..; A000-BFFF even: ..; C000-DFFF even sets the latch, odd the reload mark; E000-FFFF odd enables IRQ, even disables"
+unfoldable pub moveOf : ℕ → ℕ → Move
+moveOf v a =
+    cond (ltb a 0x8000) Nothing
+    (cond (ltb a 0xA000) (cond (isEven a) (Select v) (Data v))
+    (cond (ltb a 0xC000) (cond (isEven a) (Screens v) Nothing)
+    (cond (ltb a 0xE000) (cond (isEven a) (Latch v) Reload)
+    (cond (isEven a) Disable Enable))))
 
 -- "R0 and R1 lose bit 0, R6 and R7 keep six bits"
 unfoldable pub keptBits : ℕ → ℕ → ℕ
 keptBits select v = cond (ltb select 2) (v / 2 * 2) (cond (leb 6 select) (v % 64) v)
 
--- "Odd: data to the selected register"
-unfoldable pub stored : Mmc3 → ℕ → Mmc3
-stored m v =
+-- the board after a move
+unfoldable pub applied : Move → Mmc3 → Mmc3
+applied Nothing m = m
+-- "bits 0-2 select, bit 6 PRG mode, bit 7 CHR mode"
+applied (Select v) m = record { select = v % 8; prgmode = v / 64 % 2; chrmode = v / 128 % 2; regs = m .regs; irq = m .irq }
+-- "data to the selected register"
+applied (Data v) m =
     record {
       select = m .select;
       prgmode = m .prgmode;
@@ -32,41 +44,29 @@ stored m v =
       regs = set (m .regs) (m .select) (keptBits (m .select) v);
       irq = m .irq;
     }
+-- a mirroring is no register of this board
+applied (Screens v) m = m
+-- "sets the latch"; "the reload mark"; "enables IRQ"; "disables"
+applied (Latch v) m = withIrq m (record { enabled = m .irq .enabled; latch = v; counter = m .irq .counter; reload = m .irq .reload })
+applied Reload m = withIrq m (record { enabled = m .irq .enabled; latch = m .irq .latch; counter = m .irq .counter; reload = true })
+applied Enable m = withIrq m (record { enabled = true; latch = m .irq .latch; counter = m .irq .counter; reload = m .irq .reload })
+applied Disable m = withIrq m (record { enabled = false; latch = m .irq .latch; counter = m .irq .counter; reload = m .irq .reload })
 
--- "A000-BFFF even: bit 0 set horizontal, else vertical"
+-- "bit 0 set horizontal, else vertical"
 unfoldable pub screens : ℕ → Mirroring
 screens v = cond (eqb (v % 2) 1) Horizontal Vertical
 
--- "C000-DFFF even sets the latch, odd the reload mark"
-unfoldable pub latched : Mmc3 → ℕ → Mmc3
-latched m v = withIrq m (record { enabled = m .irq .enabled; latch = v; counter = m .irq .counter; reload = m .irq .reload })
+-- only an "A000 write" speaks of the screens
+unfoldable pub mirrorsOf : Move → Mirrors
+mirrorsOf (Screens v) = As (screens v)
+mirrorsOf Nothing = AsBefore
+mirrorsOf (Select v) = AsBefore
+mirrorsOf (Data v) = AsBefore
+mirrorsOf (Latch v) = AsBefore
+mirrorsOf Reload = AsBefore
+mirrorsOf Enable = AsBefore
+mirrorsOf Disable = AsBefore
 
--- the reload mark
-unfoldable pub marked : Mmc3 → Mmc3
-marked m = withIrq m (record { enabled = m .irq .enabled; latch = m .irq .latch; counter = m .irq .counter; reload = true })
-
--- "E000-FFFF odd enables IRQ, even disables"
-unfoldable pub switched : Mmc3 → Bool → Mmc3
-switched m on = withIrq m (record { enabled = on; latch = m .irq .latch; counter = m .irq .counter; reload = m .irq .reload })
-
--- the even addresses
-unfoldable pub writtenEven : Mmc3 → ℕ → ℕ → Wrote
-writtenEven m v a =
-    cond (ltb a 0x8000) (kept m)
-    (cond (ltb a 0xA000) (kept (selected m v))
-    (cond (ltb a 0xC000) (record { mmc3 = m; mirrors = As (screens v) })
-    (cond (ltb a 0xE000) (kept (latched m v))
-    (kept (switched m false)))))
-
--- the odd ones
-unfoldable pub writtenOdd : Mmc3 → ℕ → ℕ → Wrote
-writtenOdd m v a =
-    cond (ltb a 0x8000) (kept m)
-    (cond (ltb a 0xA000) (kept (stored m v))
-    (cond (ltb a 0xC000) (kept m)
-    (cond (ltb a 0xE000) (kept (marked m))
-    (kept (switched m true)))))
-
--- by the parity of the address
+-- the board after a write, and what the write asks of the screens
 unfoldable pub written : Mmc3 → ℕ → ℕ → Wrote
-written m v a = cond (eqb (a % 2) 0) (writtenEven m v a) (writtenOdd m v a)
+written m v a = record { mmc3 = applied (moveOf v a) m; mirrors = mirrorsOf (moveOf v a) }

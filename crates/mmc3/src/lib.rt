@@ -1,8 +1,8 @@
 // MMC3: eight bank registers, and a counter that asks for an interrupt. Ported from potatis nes/src/mappers/mmc3.rs.
 ghost use mathlib.Core.Path.{_≡_};
-ghost use Rattle.mmc3.specs.Clock.{at, houseClock, nextCounter, boardClock, clockIn, withIrq, clocked, isPending};
-ghost use Rattle.mmc3.specs.Write.{kept, selected, keptBits, stored, screens, latched, marked, switched, writtenEven, writtenOdd, written};
-ghost use Rattle.mmc3.specs.Read.{choice, register, chrBank, lastBank, lastButOne, prgBank, chrAt, prgAt, readPlace, acknowledged, houseWritePlace, writePlace};
+ghost use Rattle.mmc3.specs.Clock.{at, houseClock, nextCounter, boardClock, clockIn, clocked, isPending};
+ghost use Rattle.mmc3.specs.Write.{moveOf, keptBits, applied, screens, mirrorsOf, written};
+ghost use Rattle.mmc3.specs.Read.{choice, register, chrBank, lastBank, lastButOne, prgBank, chrAt, prgAt, readPlace, acknowledged, writePlace};
 ghost use Rattle.mmc3.specs.Range.{start, irqIsStart, isStart, fits};
 use banks::Bank1K;
 use banks::Bank8K;
@@ -40,6 +40,18 @@ pub struct Clocked {
 pub struct Ticked {
     pub mmc3: Mmc3,
     pub answer: bool,
+}
+
+// What a write does: the register that its address names, with the byte where it counts.
+pub enum Move {
+    Nothing,
+    Select(u8),
+    Data(u8),
+    Screens(u8),
+    Latch(u8),
+    Reload,
+    Enable,
+    Disable,
 }
 
 // The board after a write, and what the write asks of the screens.
@@ -151,23 +163,23 @@ fn kept_bits(select: u8, value: u8) -> u8
 }
 
 // The last 8 KB bank, and the one before it; 0 where there is none.
-fn last_bank(cart: Cartridge) -> u32
-    ensures { λ r. ⌜ r ≡ lastBank cart ⌝ }
+fn last_bank(cart: Cartridge) -> Bank8K
+    ensures { λ r. ⌜ r .0 ≡ lastBank cart ⌝ }
 {
     if cart.prg == 0 {
-        0
+        Bank8K(0)
     } else {
-        (cart.prg as u32) * 2 - 1
+        Bank8K((cart.prg as u32) * 2 - 1)
     }
 }
 
-fn last_but_one(cart: Cartridge) -> u32
-    ensures { λ r. ⌜ r ≡ lastButOne cart ⌝ }
+fn last_but_one(cart: Cartridge) -> Bank8K
+    ensures { λ r. ⌜ r .0 ≡ lastButOne cart ⌝ }
 {
     if cart.prg == 0 {
-        0
+        Bank8K(0)
     } else {
-        (cart.prg as u32) * 2 - 2
+        Bank8K((cart.prg as u32) * 2 - 2)
     }
 }
 
@@ -181,13 +193,74 @@ fn screens(value: u8) -> Mirroring
     }
 }
 
-// A write that asks nothing of the screens.
-fn kept(mmc3: Mmc3) -> Wrote
-    ensures { λ r. ⌜ r ≡ kept mmc3 ⌝ }
+pub fn move_of(value: u8, address: u16) -> Move
+    ensures { λ r. ⌜ r ≡ moveOf value address ⌝ }
 {
-    Wrote {
-        mmc3,
-        mirrors: Mirrors::AsBefore,
+    let even = address % 2 == 0;
+    match address {
+        0x8000..=0x9fff => if even {
+            Move::Select(value)
+        } else {
+            Move::Data(value)
+        },
+        // Odd: PRG RAM protection, which the Rust leaves out.
+        0xa000..=0xbfff => if even {
+            Move::Screens(value)
+        } else {
+            Move::Nothing
+        },
+        0xc000..=0xdfff => if even {
+            Move::Latch(value)
+        } else {
+            Move::Reload
+        },
+        0xe000..=0xffff => if even { Move::Disable } else { Move::Enable },
+        _ => Move::Nothing,
+    }
+}
+
+impl Move {
+    pub fn applied(self, mut mmc3: Mmc3) -> Mmc3
+        ensures { λ r. ⌜ r ≡ applied self mmc3 ⌝ }
+    {
+        match self {
+            Move::Nothing => mmc3,
+            Move::Select(value) => mmc3.bank_select(value),
+            Move::Data(value) => mmc3.bank_data(value),
+            Move::Screens(_) => mmc3,
+            Move::Latch(value) => {
+                mmc3.irq.latch = value;
+                mmc3
+            }
+            Move::Reload => {
+                mmc3.irq.reload = true;
+                mmc3
+            }
+            Move::Enable => {
+                mmc3.irq.enabled = true;
+                mmc3
+            }
+            Move::Disable => {
+                mmc3.irq.enabled = false;
+                mmc3
+            }
+        }
+    }
+
+    // What it asks of the screens.
+    pub fn mirrors(self) -> Mirrors
+        ensures { λ r. ⌜ r ≡ mirrorsOf self ⌝ }
+    {
+        match self {
+            Move::Screens(value) => Mirrors::As(screens(value)),
+            Move::Nothing => Mirrors::AsBefore,
+            Move::Select(_) => Mirrors::AsBefore,
+            Move::Data(_) => Mirrors::AsBefore,
+            Move::Latch(_) => Mirrors::AsBefore,
+            Move::Reload => Mirrors::AsBefore,
+            Move::Enable => Mirrors::AsBefore,
+            Move::Disable => Mirrors::AsBefore,
+        }
     }
 }
 
@@ -259,18 +332,18 @@ impl Mmc3 {
                 if self.prgmode == 0 {
                     Bank8K(regs[6] as u32)
                 } else {
-                    Bank8K(last_but_one(cart))
+                    last_but_one(cart)
                 }
             }
             0xa000..=0xbfff => Bank8K(regs[7] as u32),
             0xc000..=0xdfff => {
                 if self.prgmode == 0 {
-                    Bank8K(last_but_one(cart))
+                    last_but_one(cart)
                 } else {
                     Bank8K(regs[6] as u32)
                 }
             }
-            _ => Bank8K(last_bank(cart)),
+            _ => last_bank(cart),
         }
     }
 
@@ -301,7 +374,7 @@ impl Mmc3 {
         ensures { λ r. ⌜ r ≡ acknowledged self address ⌝ }
     {
         let irq = self.irq;
-        let pending = irq.is_pending() & (address % 2 == 0);
+        let pending = irq.is_pending() & (0xe000 <= address) & (address % 2 == 0);
         if pending {
             Place::Refused(Refusal::IrqPending)
         } else {
@@ -309,41 +382,27 @@ impl Mmc3 {
         }
     }
 
-    fn house_write_place(self, address: u16) -> Place
-        ensures { λ r. ⌜ r ≡ houseWritePlace self address ⌝ }
-    {
-        match address {
-            0x6000..=0x7fff => Place::PrgRam((address - 0x6000) as usize),
-            0xe000..=0xffff => self.acknowledged(address),
-            _ => Place::Zero,
-        }
-    }
-
-    // Through the banks, as a read goes. Its own windows, so that the compiler makes read_place a part
-    // of the one call that reads.
-    fn board_write_place(self, cart: Cartridge, address: u16) -> Place
-        ensures { λ r. ⌜ r ≡ readPlace self cart address ⌝ }
-    {
-        match address {
-            0x0000..=0x1fff => self.read_chr(cart, address),
-            0x6000..=0x7fff => Place::PrgRam((address - 0x6000) as usize),
-            0x8000..=0xffff => self.read_prg(cart, address),
-            _ => Place::Zero,
-        }
-    }
-
+    // Where a read of it would land on the real board, and by rules of its own in the Rust.
     pub fn write_place(self, cart: Cartridge, address: u16) -> Place
         ensures { λ r. ⌜ r ≡ writePlace self cart address ⌝ }
     {
         let mode = cart.mode;
-        match mode {
-            Mode::House => self.house_write_place(address),
-            Mode::Board => self.board_write_place(cart, address),
+        match address {
+            0x0000..=0x1fff => match mode {
+                Mode::House => Place::Zero,
+                Mode::Board => self.read_chr(cart, address),
+            },
+            0x6000..=0x7fff => Place::PrgRam((address - 0x6000) as usize),
+            0x8000..=0xffff => match mode {
+                Mode::House => self.acknowledged(address),
+                Mode::Board => self.read_prg(cart, address),
+            },
+            _ => Place::Zero,
         }
     }
 
     fn bank_select(mut self, value: u8) -> Mmc3
-        ensures { λ r. ⌜ r ≡ selected self value ⌝ }
+        ensures { λ r. ⌜ r ≡ applied (Move.Select value) self ⌝ }
     {
         self.select = value % 8;
         self.prgmode = value / 64 % 2;
@@ -352,7 +411,7 @@ impl Mmc3 {
     }
 
     fn bank_data(self, value: u8) -> Mmc3
-        ensures { λ r. ⌜ r ≡ stored self value ⌝ }
+        ensures { λ r. ⌜ r ≡ applied (Move.Data value) self ⌝ }
     {
         let mut next = self;
         let kept = kept_bits(self.select, value);
@@ -363,83 +422,25 @@ impl Mmc3 {
         next
     }
 
-    fn with_irq(mut self, irq: Irq) -> Mmc3
-        ensures { λ r. ⌜ r ≡ withIrq self irq ⌝ }
-    {
-        self.irq = irq;
-        self
-    }
-
-    fn latch(self, value: u8) -> Mmc3
-        ensures { λ r. ⌜ r ≡ latched self value ⌝ }
-    {
-        let mut irq = self.irq;
-        irq.latch = value;
-        self.with_irq(irq)
-    }
-
-    fn mark_reload(self) -> Mmc3
-        ensures { λ r. ⌜ r ≡ marked self ⌝ }
-    {
-        let mut irq = self.irq;
-        irq.reload = true;
-        self.with_irq(irq)
-    }
-
-    fn switch_irq(self, on: bool) -> Mmc3
-        ensures { λ r. ⌜ r ≡ switched self on ⌝ }
-    {
-        let mut irq = self.irq;
-        irq.enabled = on;
-        self.with_irq(irq)
-    }
-
-    fn write_even(self, value: u8, address: u16) -> Wrote
-        ensures { λ r. ⌜ r ≡ writtenEven self value address ⌝ }
-    {
-        match address {
-            0x8000..=0x9fff => kept(self.bank_select(value)),
-            0xa000..=0xbfff => Wrote {
-                mmc3: self,
-                mirrors: Mirrors::As(screens(value)),
-            },
-            0xc000..=0xdfff => kept(self.latch(value)),
-            0xe000..=0xffff => kept(self.switch_irq(false)),
-            _ => kept(self),
-        }
-    }
-
-    fn write_odd(self, value: u8, address: u16) -> Wrote
-        ensures { λ r. ⌜ r ≡ writtenOdd self value address ⌝ }
-    {
-        match address {
-            0x8000..=0x9fff => kept(self.bank_data(value)),
-            // PRG RAM protection, which the Rust leaves out.
-            0xa000..=0xbfff => kept(self),
-            0xc000..=0xdfff => kept(self.mark_reload()),
-            0xe000..=0xffff => kept(self.switch_irq(true)),
-            _ => kept(self),
-        }
-    }
-
     pub fn write8(self, value: u8, address: u16) -> Wrote
         ensures { λ r. ⌜ r ≡ written self value address ⌝ }
     {
-        if address % 2 == 0 {
-            self.write_even(value, address)
-        } else {
-            self.write_odd(value, address)
+        let made = move_of(value, address);
+        Wrote {
+            mmc3: made.applied(self),
+            mirrors: made.mirrors(),
         }
     }
 
-    pub fn clock(self, mode: Mode) -> Ticked
+    pub fn clock(mut self, mode: Mode) -> Ticked
         ensures { λ r. ⌜ r ≡ clocked mode self ⌝ }
     {
         let irq = self.irq;
         let c = irq.clock(mode);
         let next = c.irq;
+        self.irq = next;
         Ticked {
-            mmc3: self.with_irq(next),
+            mmc3: self,
             answer: c.answer,
         }
     }

@@ -1,8 +1,9 @@
 -- Where an address lands, and the byte that is read or stored there.
-use Prim.Native.Nat.{ℕ, _+_}
+use Prim.Native.Nat.{ℕ, _+_, _-_}
 use mathlib.Core.Path.{_≡_}
 use mathlib.Core.Bool.{Bool, cond}
 use mathlib.Core.List.{List}
+use lib.Dec.{ltb}
 use lib.ListN.{set}
 use Rattle.memory.specs.Memory.{byte}
 use Rattle.banks.specs.Banks.{bankStart}
@@ -33,6 +34,10 @@ prgPlace c size n at = prgAt (bankStart (c .mode) n size (prgTotal c)) at
 -- the same of CHR; "CHR RAM is read .. through the banks"
 unfoldable pub chrPlace : Cartridge → ℕ → ℕ → ℕ → Place
 chrPlace c size n at = chrAt (hasChrRam c) (bankStart (c .mode) n size (chrTotal c)) at
+
+-- MMC1 and MMC3: "PPU" means 0000-1FFF; "6000-7FFF PRG RAM"; 8000-FFFF is ROM; "Not mentioned: a read answers 0, a write does nothing"
+unfoldable pub inWindows : Place → Place → ℕ → Place
+inWindows ppu rom a = cond (ltb a 0x2000) ppu (cond (ltb a 0x6000) Zero (cond (ltb a 0x8000) (PrgRam (a - 0x6000)) rom))
 
 -- refusal 12: "NROM, MMC1, UxROM at 0000-1FFF with no CHR RAM"; else "PPU .. writes CHR RAM", "unbanked"
 unfoldable pub housePpuWrite : Cartridge → ℕ → Place

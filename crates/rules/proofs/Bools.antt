@@ -1,6 +1,6 @@
--- A conjunction of tests, taken apart. Assumes nothing.
+-- A conjunction of tests, taken apart; a choice by a test. Assumes nothing.
 use mathlib.Core.Path.{_≡_, refl}
-use mathlib.Core.Bool.{Bool, true, false, false≢true, _&&_}
+use mathlib.Core.Bool.{Bool, true, false, false≢true, cond, _&&_}
 
 pub and-left : (x y : Bool) → (x && y) ≡ true → x ≡ true
 and-left true y e = refl
@@ -26,3 +26,8 @@ pub split-5 : (a b c d f : Bool) → (a && b && c && d && f) ≡ true → (a ≡
 split-5 a b c d f e =
     let s = split-4 a b c d (and-left (a && b && c && d) f e) in
     (s .0, s .1, s .2, s .3, and-right (a && b && c && d) f e)
+
+-- what holds of both arms of a choice holds of the choice
+pub either : {A : Type 0} (P : A → Type 0) (t : Bool) {x y : A} → P x → P y → P (cond t x y)
+either P true p q = p
+either P false p q = q

@@ -1,1 +1,1 @@
-// Lemma sets and general laws that the proofs of every crate cite. No code.
+// Lemma sets and general laws that proofs cite, and the rows of digits by which states are packed. No code.

@@ -1,173 +1,170 @@
--- A word is its digits, and its digits are the word's: the arithmetic of docs/ABI.md's rows. Assumes nothing.
-use Prim.Native.Nat.{ℕ, _+_, _*_, _/_, _%_, _<_}
-use mathlib.Core.Path.{_≡_, sym, ap, _∙_}
-use native.Mathlib.Nat.{mod-add-div, div-div-eq-div-mul}
+-- Every digit of a board in range is below its size: those of another board's registers are at their start. Assumes nothing.
+use Prim.Native.Nat.{ℕ, _%_, _<_}
+use mathlib.Core.Path.{_≡_, refl, subst⁻¹}
+use mathlib.Core.Bool.{Bool, true, not, _&&_}
+use mathlib.Core.List.{List, [], _∷_}
 use native.Mathlib.Omega.{arith}
+use borrow.Author.Tests.{ltb-true, eqb-true}
+use lib.Dec.{ltb, leb, eqb}
+use Rattle.rules.specs.Rows.{below, Fits, bytes}
+use Rattle.rules.proofs.Bools.{and-left, and-right, split-3, split-4, split-5, either}
+use Rattle.rules.proofs.Rows.{tested, each, mark-small}
+use Rattle.common.specs.Common.{modeNumber, modeOf}
+use Rattle.common.specs.declared.Mode.{Mode}
+use Rattle.common.specs.declared.Mode.the-variants.{House, Board as OnBoard}
+use Rattle.cartridge.specs.Answers.{mapperNumber, isMapper}
+use Rattle.cartridge.specs.Load.{mapperType, badPrg, oddCounts, needed, isHeaders, couldLoad}
+use Rattle.cartridge.specs.declared.Cartridge.{Cartridge}
+use Rattle.cartridge.specs.declared.Mirroring.{Mirroring}
+use Rattle.cartridge.specs.declared.Mirroring.the-variants.{Horizontal, Vertical, SingleScreenUpper, SingleScreenLower}
+use Rattle.cartridge.specs.declared.MapperType.{MapperType}
+use Rattle.cartridge.specs.declared.MapperType.the-variants.{Nrom, Mmc1, Uxrom, Cnrom, Mmc3}
+use Rattle.uxrom.specs.Uxrom as uxrom
+use Rattle.cnrom.specs.Cnrom as cnrom
+use Rattle.cnrom.specs.declared.Cnrom as cnrom-type
+use Rattle.mmc1.specs.Range as mmc1
+use Rattle.mmc1.specs.declared.Mmc1 as mmc1-type
+use Rattle.mmc1.specs.declared.Regs as mmc1-regs
+use Rattle.mmc3.specs.Range as mmc3
+use Rattle.mmc3.specs.Read.{register}
+use Rattle.mmc3.specs.declared.Mmc3 as mmc3-type
+use Rattle.boards.specs.Registers.{partFits, fits}
+use Rattle.boards.specs.Range.{inRange, mirroringFits}
+use Rattle.boards.specs.declared.Board.{Board}
+use Rattle.states.specs.Words.{mirroringDigit, mirroringOf, cartSizes, cartDigits, banksSizes, banksDigits, regsDigits, irqSizes, irqDigits}
+use Rattle.states.specs.Kept.{OfItsTypes}
+use Rattle.states.proofs.Starts.{mmc1-unused}
 
--- a digit d of size n taken off w leaves q
-pub record Off (w d n q : ℕ) : Type 0 where
-  pub is : w ≡ d + n * q
+-- each enum is the one of its digit
+mode-small : (m : Mode) → modeNumber m < 2
+mode-small House = omega arith
+mode-small OnBoard = omega arith
 
--- off a word, and off what is left of it
-pub lowest : (w n : ℕ) → Off w (w % n) n (w / n)
-lowest w n = record { is = sym (mod-add-div w n) }
+pub mode-there : (m : Mode) → modeOf (modeNumber m) ≡ m
+unfolding modeOf
+mode-there House = refl
+mode-there OnBoard = refl
 
-pub next : (w m n : ℕ) → Off (w / m) (w / m % n) n (w / (m * n))
-next w m n = record { is = sym (mod-add-div (w / m) n) ∙ ap (λ (x : ℕ). w / m % n + n * x) (div-div-eq-div-mul w m n) }
+mapper-small : (m : MapperType) → mapperNumber m < 0x100
+mapper-small Nrom = omega arith
+mapper-small Mmc1 = omega arith
+mapper-small Uxrom = omega arith
+mapper-small Cnrom = omega arith
+mapper-small Mmc3 = omega arith
 
--- word 0
-abbrev pub cart-row : ℕ → ℕ → ℕ → ℕ → ℕ → ℕ → ℕ → ℕ
-cart-row a b c d e f g = a + b * 2 + c * 4 + d * 64 + e * 0x100 + f * 0x10000 + g * 0x1000000
+pub mapper-there : (m : MapperType) → mapperType (mapperNumber m) ≡ m
+unfolding mapperType
+mapper-there Nrom = refl
+mapper-there Mmc1 = refl
+mapper-there Uxrom = refl
+mapper-there Cnrom = refl
+mapper-there Mmc3 = refl
 
-pub record CartDigits (w a b c d e f g : ℕ) : Type 0 where
-  pub mode : w % 2 ≡ a
-  pub mark : w / 2 % 2 ≡ b
-  pub mapper : w / 4 % 16 ≡ c
-  pub header : w / 64 % 4 ≡ d
-  pub prg : w / 0x100 % 0x100 ≡ e
-  pub chr : w / 0x10000 % 0x100 ≡ f
-  pub screens : w / 0x1000000 % 4 ≡ g
-  pub whole : w < 0x4000000
+screens-small : (m : Mirroring) → mirroringDigit m < 4
+screens-small Horizontal = omega arith
+screens-small Vertical = omega arith
+screens-small SingleScreenUpper = omega arith
+screens-small SingleScreenLower = omega arith
 
-pub cart-digits : (a b c d e f g : ℕ) → a < 2 → b < 2 → c < 16 → d < 4 → e < 0x100 → f < 0x100 → g < 4
-    → CartDigits (cart-row a b c d e f g) a b c d e f g
-cart-digits a b c d e f g ha hb hc hd he hf hg =
+pub screens-there : (m : Mirroring) → mirroringOf (mirroringDigit m) ≡ m
+unfolding mirroringOf
+screens-there Horizontal = refl
+screens-there Vertical = refl
+screens-there SingleScreenUpper = refl
+screens-there SingleScreenLower = refl
+
+-- what follows of a part in its range and of a part at its start follows of every part that fits
+part : (A : Type 0) (k owner : MapperType) {inRange atStart : Bool} → (inRange ≡ true → A) → (atStart ≡ true → A) → partFits k owner inRange atStart ≡ true → A
+unfolding partFits
+part A k owner f g = either (λ (x : Bool). x ≡ true → A) (isMapper k owner) f g
+
+cnrom-small : (k : MapperType) (u : cnrom-type.Cnrom) → partFits k Cnrom (cnrom.fits u) (cnrom.isStart u) ≡ true → u .bank < 4
+cnrom-small k u = part (u .bank < 4) k Cnrom (ltb-true (u .bank) 4) (λ e. omega (arith, eqb-true (u .bank) 0 e))
+
+-- the seven digits of MMC1
+abbrev mmc1Sizes : List ℕ
+mmc1Sizes = 8 ∷ 32 ∷ 4 ∷ 2 ∷ 32 ∷ 32 ∷ 16 ∷ []
+
+abbrev regsDigitsOf : mmc1-regs.Regs → List ℕ
+regsDigitsOf r = r .prgmode ∷ r .chrmode ∷ r .chr0 ∷ r .chr1 ∷ r .prg ∷ []
+
+abbrev mmc1Digits : mmc1-type.Mmc1 → List ℕ
+mmc1Digits m = m .serial .count ∷ m .serial .value ∷ regsDigitsOf (m .regs)
+
+mmc1-used : (m : mmc1-type.Mmc1) → mmc1.fits m ≡ true → Fits mmc1Sizes (mmc1Digits m)
+unfolding mmc1.fits mmc1.serialFits mmc1.regsFits
+mmc1-used m h =
+    let s = split-3 (ltb (m .serial .count) 5) (ltb (m .serial .value) 32) _ (and-left (mmc1.serialFits (m .serial)) (mmc1.regsFits (m .regs)) h) in
+    let r = tested (4 ∷ 2 ∷ 32 ∷ 32 ∷ 16 ∷ []) (regsDigitsOf (m .regs)) (and-right (mmc1.serialFits (m .serial)) (mmc1.regsFits (m .regs)) h) in
+    let c = ltb-true (m .serial .count) 5 (s .0) in
+    (omega (arith, c), (ltb-true (m .serial .value) 32 (s .1), r))
+
+mmc1-small : (k : MapperType) (m : mmc1-type.Mmc1) → partFits k Mmc1 (mmc1.fits m) (mmc1.isUnused m) ≡ true → Fits mmc1Sizes (mmc1Digits m)
+mmc1-small k m =
+    let P : mmc1-type.Mmc1 → Type 0 = λ x. Fits mmc1Sizes (mmc1Digits x) in
+    part (P m) k Mmc1 (mmc1-used m) (λ e. subst⁻¹ P (mmc1-unused m e) (search arith))
+
+-- three digits of MMC3; the others fit by their types
+abbrev modesSizes : List ℕ
+modesSizes = 8 ∷ 2 ∷ 2 ∷ []
+
+abbrev modesDigits : mmc3-type.Mmc3 → List ℕ
+modesDigits m = m .select ∷ m .prgmode ∷ m .chrmode ∷ []
+
+mmc3-used : (m : mmc3-type.Mmc3) → mmc3.fits m ≡ true → Fits modesSizes (modesDigits m)
+unfolding mmc3.fits
+mmc3-used m h =
+    tested modesSizes (modesDigits m)
+    (split-5 (below modesSizes (modesDigits m)) (eqb (register m 0 % 2) 0) (eqb (register m 1 % 2) 0) (ltb (register m 6) 64) (ltb (register m 7) 64) h .0)
+
+mmc3-unused : (m : mmc3-type.Mmc3) → mmc3.isStart m ≡ true → Fits modesSizes (modesDigits m)
+unfolding mmc3.isStart
+mmc3-unused m h =
+    let r : ℕ → Bool = λ k. eqb (register m k) 0 in
+    let p =
+    split-5 (eqb (m .select) 0) (eqb (m .prgmode) 0) (eqb (m .chrmode) 0) (r 0 && r 1 && r 2 && r 3 && r 4 && r 5 && r 6 && r 7) (mmc3.irqIsStart (m .irq)) h
+    in
+    let s = eqb-true (m .select) 0 (p .0) in
+    let g = eqb-true (m .prgmode) 0 (p .1) in
+    let c = eqb-true (m .chrmode) 0 (p .2) in
+    search (arith, s, g, c)
+
+mmc3-small : (k : MapperType) (m : mmc3-type.Mmc3) → partFits k Mmc3 (mmc3.fits m) (mmc3.isStart m) ≡ true → Fits modesSizes (modesDigits m)
+mmc3-small k m = part (Fits modesSizes (modesDigits m)) k Mmc3 (mmc3-used m) (mmc3-unused m)
+
+-- both counts are below 256 where a load could leave them
+counts : (c : Cartridge) → couldLoad c ≡ true → Fits (0x100 ∷ 0x100 ∷ []) (c .prg ∷ c .chr ∷ [])
+unfolding couldLoad
+counts c h =
+    let counted = not (badPrg (mapperNumber (c .mapper)) (c .prg)) && not (oddCounts (c .mode) (c .prg) (c .chr)) in
+    let enough = leb (needed (c .prg) (c .chr)) (c .length) in
+    let p = split-3 counted (ltb (c .prg) 256 && ltb (c .chr) 256 && enough) (isHeaders (c .mirroring)) h in
+    tested (0x100 ∷ 0x100 ∷ []) (c .prg ∷ c .chr ∷ []) (and-left (ltb (c .prg) 256 && ltb (c .chr) 256) enough (p .1))
+
+-- every digit of a board is below its size
+pub record InRows (b : Board) : Type 0 where
+  pub cart : Fits cartSizes (cartDigits (b .cart) (b .mirroring))
+  pub banks : Fits banksSizes (banksDigits (b .registers .uxrom) (b .registers .cnrom) (b .registers .mmc1))
+  pub regs : Fits bytes (regsDigits (b .registers .mmc3 .regs))
+  pub irq : Fits irqSizes (irqDigits (b .registers .mmc3))
+
+pub in-rows : (b : Board) → OfItsTypes b → inRange b ≡ true → InRows b
+unfolding inRange fits
+in-rows b t h =
+    let k = b .cart .mapper in
+    let r = b .registers in
+    let p = split-3 (couldLoad (b .cart)) (fits k r) (mirroringFits b) h in
+    let q =
+    split-4 (partFits k Uxrom true (uxrom.isStart (r .uxrom))) (partFits k Cnrom (cnrom.fits (r .cnrom)) (cnrom.isStart (r .cnrom)))
+    (partFits k Mmc1 (mmc1.fits (r .mmc1)) (mmc1.isUnused (r .mmc1))) (partFits k Mmc3 (mmc3.fits (r .mmc3)) (mmc3.isStart (r .mmc3))) (p .1)
+    in
+    let c = counts (b .cart) (p .0) in
+    let n = cnrom-small k (r .cnrom) (q .1) in
+    let o = mmc1-small k (r .mmc1) (q .2) in
+    let m = mmc3-small k (r .mmc3) (q .3) in
     record {
-      mode = omega arith;
-      mark = omega arith;
-      mapper = omega arith;
-      header = omega arith;
-      prg = omega arith;
-      chr = omega arith;
-      screens = omega arith;
-      whole = omega arith;
+      cart = search (arith, mode-small, mark-small, mapper-small, screens-small, c);
+      banks = search (arith, n, o, t);
+      regs = each bytes (r .mmc3 .regs) (t .registers);
+      irq = search (arith, mark-small, m, t);
     }
-
-cart-sum : {w p q r s t u v a b c d e f g : ℕ} → Off w a 2 p → Off p b 2 q → Off q c 16 r → Off r d 4 s → Off s e 0x100 t → Off t f 0x100 u
-    → Off u g 4 v → w < 0x4000000 → cart-row a b c d e f g ≡ w
-cart-sum ha hb hc hd he hf hg l =
-    let a = ha .is in let b = hb .is in let c = hc .is in let d = hd .is in let e = he .is in let f = hf .is in let g = hg .is in omega arith
-
-pub cart-back : (w : ℕ) → w < 0x4000000
-    → cart-row (w % 2) (w / 2 % 2) (w / 4 % 16) (w / 64 % 4) (w / 0x100 % 0x100) (w / 0x10000 % 0x100) (w / 0x1000000 % 4) ≡ w
-cart-back w h =
-    cart-sum (lowest w 2) (next w 2 2) (next w 4 16) (next w 64 4) (next w 0x100 0x100) (next w 0x10000 0x100) (next w 0x1000000 4) h
-
--- word 2
-abbrev pub banks-row : ℕ → ℕ → ℕ → ℕ → ℕ → ℕ → ℕ → ℕ → ℕ
-banks-row a b c d e f g h = a + b * 0x100 + c * 0x400 + d * 0x8000 + e * 0x20000 + f * 0x40000 + g * 0x800000 + h * 0x10000000
-
-pub record BanksDigits (w c d e f g h : ℕ) : Type 0 where
-  pub serial : w / 0x400 % 32 ≡ c
-  pub prgmode : w / 0x8000 % 4 ≡ d
-  pub chrmode : w / 0x20000 % 2 ≡ e
-  pub chr0 : w / 0x40000 % 32 ≡ f
-  pub chr1 : w / 0x800000 % 32 ≡ g
-  pub prg : w / 0x10000000 % 16 ≡ h
-  pub unused : w % 0x400 ≡ 0
-  pub whole : w < 0x100000000
-
-pub banks-digits : (c d e f g h : ℕ) → c < 32 → d < 4 → e < 2 → f < 32 → g < 32 → h < 16
-    → BanksDigits (banks-row 0 0 c d e f g h) c d e f g h
-banks-digits c d e f g h hc hd he hf hg hh =
-    record {
-      serial = omega arith;
-      prgmode = omega arith;
-      chrmode = omega arith;
-      chr0 = omega arith;
-      chr1 = omega arith;
-      prg = omega arith;
-      unused = omega arith;
-      whole = omega arith;
-    }
-
-banks-sum : {w p q r s t u v z c d e f g h : ℕ} → Off w z 0x400 p → Off p c 32 q → Off q d 4 r → Off r e 2 s → Off s f 32 t → Off t g 32 u
-    → Off u h 16 v → z ≡ 0 → w < 0x100000000 → banks-row 0 0 c d e f g h ≡ w
-banks-sum hz hc hd he hf hg hh z l =
-    let y = hz .is in let c = hc .is in let d = hd .is in let e = he .is in let f = hf .is in let g = hg .is in let h = hh .is in omega arith
-
-pub banks-back : (w : ℕ) → w % 0x400 ≡ 0 → w < 0x100000000
-    → banks-row 0 0 (w / 0x400 % 32) (w / 0x8000 % 4) (w / 0x20000 % 2) (w / 0x40000 % 32) (w / 0x800000 % 32) (w / 0x10000000 % 16) ≡ w
-banks-back w e l =
-    banks-sum (lowest w 0x400) (next w 0x400 32) (next w 0x8000 4) (next w 0x20000 2) (next w 0x40000 32) (next w 0x800000 32) (next w 0x10000000 16) e l
-
--- word 3
-abbrev pub regs-row : ℕ → ℕ → ℕ → ℕ → ℕ → ℕ → ℕ → ℕ → ℕ
-regs-row a b c d e f g h =
-    a + b * 0x80 + c * 0x4000 + d * 0x400000 + e * 0x40000000 + f * 0x4000000000 + g * 0x400000000000 + h * 0x10000000000000
-
-pub record RegsDigits (w a b c d e f g h : ℕ) : Type 0 where
-  pub r0 : w % 0x80 ≡ a
-  pub r1 : w / 0x80 % 0x80 ≡ b
-  pub r2 : w / 0x4000 % 0x100 ≡ c
-  pub r3 : w / 0x400000 % 0x100 ≡ d
-  pub r4 : w / 0x40000000 % 0x100 ≡ e
-  pub r5 : w / 0x4000000000 % 0x100 ≡ f
-  pub r6 : w / 0x400000000000 % 0x40 ≡ g
-  pub r7 : w / 0x10000000000000 % 0x40 ≡ h
-  pub whole : w < 0x400000000000000
-
-pub regs-digits : (a b c d e f g h : ℕ) → a < 0x80 → b < 0x80 → c < 0x100 → d < 0x100 → e < 0x100 → f < 0x100 → g < 0x40 → h < 0x40
-    → RegsDigits (regs-row a b c d e f g h) a b c d e f g h
-regs-digits a b c d e f g h ha hb hc hd he hf hg hh =
-    record {
-      r0 = omega arith;
-      r1 = omega arith;
-      r2 = omega arith;
-      r3 = omega arith;
-      r4 = omega arith;
-      r5 = omega arith;
-      r6 = omega arith;
-      r7 = omega arith;
-      whole = omega arith;
-    }
-
-regs-sum : {w p q r s t u v x a b c d e f g h : ℕ} → Off w a 0x80 p → Off p b 0x80 q → Off q c 0x100 r → Off r d 0x100 s → Off s e 0x100 t
-    → Off t f 0x100 u → Off u g 0x40 v → Off v h 0x40 x → w < 0x400000000000000 → regs-row a b c d e f g h ≡ w
-regs-sum ha hb hc hd he hf hg hh l =
-    let a = ha .is in let b = hb .is in let c = hc .is in let d = hd .is in let e = he .is in let f = hf .is in let g = hg .is in let h = hh .is in
-    omega arith
-
-pub regs-back : (w : ℕ) → w < 0x400000000000000
-    → regs-row (w % 0x80) (w / 0x80 % 0x80) (w / 0x4000 % 0x100) (w / 0x400000 % 0x100) (w / 0x40000000 % 0x100) (w / 0x4000000000 % 0x100)
-    (w / 0x400000000000 % 0x40) (w / 0x10000000000000 % 0x40) ≡ w
-regs-back w l =
-    regs-sum (lowest w 0x80) (next w 0x80 0x80) (next w 0x4000 0x100) (next w 0x400000 0x100) (next w 0x40000000 0x100) (next w 0x4000000000 0x100)
-    (next w 0x400000000000 0x40) (next w 0x10000000000000 0x40) l
-
--- word 4
-abbrev pub irq-row : ℕ → ℕ → ℕ → ℕ → ℕ → ℕ → ℕ → ℕ
-irq-row a b c d e f g = a + b * 0x100 + c * 0x10000 + d * 0x80000 + e * 0x100000 + f * 0x200000 + g * 0x400000
-
-pub record IrqDigits (w a b c d e f g : ℕ) : Type 0 where
-  pub latch : w % 0x100 ≡ a
-  pub counter : w / 0x100 % 0x100 ≡ b
-  pub select : w / 0x10000 % 8 ≡ c
-  pub prgmode : w / 0x80000 % 2 ≡ d
-  pub chrmode : w / 0x100000 % 2 ≡ e
-  pub enabled : w / 0x200000 % 2 ≡ f
-  pub reload : w / 0x400000 % 2 ≡ g
-  pub whole : w < 0x800000
-
-pub irq-digits : (a b c d e f g : ℕ) → a < 0x100 → b < 0x100 → c < 8 → d < 2 → e < 2 → f < 2 → g < 2 → IrqDigits (irq-row a b c d e f g) a b c d e f g
-irq-digits a b c d e f g ha hb hc hd he hf hg =
-    record {
-      latch = omega arith;
-      counter = omega arith;
-      select = omega arith;
-      prgmode = omega arith;
-      chrmode = omega arith;
-      enabled = omega arith;
-      reload = omega arith;
-      whole = omega arith;
-    }
-
-irq-sum : {w p q r s t u v a b c d e f g : ℕ} → Off w a 0x100 p → Off p b 0x100 q → Off q c 8 r → Off r d 2 s → Off s e 2 t → Off t f 2 u
-    → Off u g 2 v → w < 0x800000 → irq-row a b c d e f g ≡ w
-irq-sum ha hb hc hd he hf hg l =
-    let a = ha .is in let b = hb .is in let c = hc .is in let d = hd .is in let e = he .is in let f = hf .is in let g = hg .is in omega arith
-
-pub irq-back : (w : ℕ) → w < 0x800000
-    → irq-row (w % 0x100) (w / 0x100 % 0x100) (w / 0x10000 % 8) (w / 0x80000 % 2) (w / 0x100000 % 2) (w / 0x200000 % 2) (w / 0x400000 % 2) ≡ w
-irq-back w l =
-    irq-sum (lowest w 0x100) (next w 0x100 0x100) (next w 0x10000 8) (next w 0x80000 2) (next w 0x100000 2) (next w 0x200000 2) (next w 0x400000 2) l

@@ -1,4 +1,3 @@
 pub mod Words
 pub mod Kept
 pub mod Steps
-pub mod RoundTrip

@@ -1,30 +1,87 @@
--- What the code tests in place of a definition; nothing public cites it, and `Ranges` of proofs/ joins the two.
-use Prim.Native.Nat.{ℕ, _+_, _*_, _/_, _%_}
-use mathlib.Core.Bool.{Bool, false, cond, not, _&&_, _||_}
-use lib.Dec.{ltb, leb, eqb}
+-- What the code tests in place of `isKept`, in six parts; `Judged` of proofs/ joins them.
+use Prim.Native.Nat.{ℕ}
+use mathlib.Core.Bool.{Bool, cond, not, _&&_, _||_}
+use mathlib.Core.List.{List}
+use lib.Dec.{eqb, ltb}
+use Rattle.rules.specs.Rows.{bytes, digit}
+use Rattle.rules.specs.Flat.{flatDigits}
+use Rattle.common.specs.Common.{modeOf}
+use Rattle.cartridge.specs.Answers.{isMapper, mapperNumber}
+use Rattle.cartridge.specs.Load.{couldLoad}
+use Rattle.cartridge.specs.declared.Cartridge.{Cartridge}
+use Rattle.cartridge.specs.declared.MapperType.{MapperType}
+use Rattle.cartridge.specs.declared.MapperType.the-variants.{Uxrom, Cnrom, Mmc1, Mmc3}
+use Rattle.uxrom.specs.Uxrom as uxrom
+use Rattle.cnrom.specs.Cnrom as cnrom
+use Rattle.mmc1.specs.Range as mmc1
+use Rattle.mmc3.specs.Range as mmc3
+use Rattle.mmc3.specs.declared.Mmc3 as mmc3-type
+use Rattle.boards.specs.Range.{turnedFit}
+use Rattle.states.specs.Words.{cartSizes, cartWord, mapperOf, mirroringOf, screensOf, banksSizes, banksWord, uxromOf, cnromOf, mmc1Of, regsWord, irqSizes, irqWord, mmc3Of}
+use Rattle.boards.specs.declared.Board.{Board}
 use Rattle.states.specs.declared.Words.{Words}
 
--- the current mirroring's digit is the header's
-unfoldable pub sameScreens : Words → Bool
-sameScreens w = eqb (w .cart / 0x1000000 % 4) (w .cart / 64 % 4)
+-- the cartridge of these digits as a board of this mapper
+abbrev pub cartAs : MapperType → List ℕ → ℕ → Cartridge
+cartAs k d length =
+    record {
+      mode = modeOf (digit d 2);
+      mapper = k;
+      nes2 = eqb (digit d 3) 1;
+      mirroring = mirroringOf (digit d 4);
+      prg = digit d 7;
+      chr = digit d 8;
+      length = length;
+    }
 
--- in house mode that, in board mode a digit below a limit
-unfoldable pub screensWithin : Words → ℕ → Bool
-screensWithin w limit = cond (eqb (w .cart % 2) 0) (sameScreens w) (ltb (w .cart / 0x1000000 % 4) limit)
+-- the cartridge is as a load could leave it, on a board with any count of PRG blocks
+unfoldable pub couldLoadIn : ℕ → ℕ → Bool
+couldLoadIn c length = couldLoad (cartAs Mmc3 (flatDigits cartSizes c) length)
 
--- what divides 128: the powers of two from 1 to 128
-unfoldable pub divides128 : ℕ → Bool
-divides128 n = eqb (128 % n) 0
+-- no more of them than its board takes
+unfoldable pub prgFits : MapperType → ℕ → Bool
+prgFits k c = not ((eqb (mapperNumber k) 0 || eqb (mapperNumber k) 3) && ltb 2 (digit (flatDigits cartSizes c) 7))
 
--- counts that board mode refuses
-unfoldable pub oddIn : Words → Bool
-oddIn w =
-    cond (eqb (w .cart % 2) 0) false
-    (not (divides128 (w .cart / 0x100 % 0x100)) || (not (eqb (w .cart / 0x10000 % 0x100) 0) && not (divides128 (w .cart / 0x10000 % 0x100))))
+-- the current mirroring is one that its board may have
+unfoldable pub screensAreKept : MapperType → ℕ → Bool
+screensAreKept k c =
+    cond (eqb (digit (flatDigits cartSizes c) 2) 0) (eqb (digit (flatDigits cartSizes c) 5) (digit (flatDigits cartSizes c) 4))
+    (turnedFit k (eqb (digit (flatDigits cartSizes c) 5) (digit (flatDigits cartSizes c) 4)) (ltb (digit (flatDigits cartSizes c) 5) 2))
 
--- the cartridge is as a load could leave it, on a board with at most so many PRG blocks
-unfoldable pub couldLoadUpTo : ℕ → Words → Bool
-couldLoadUpTo most w =
-    (not (eqb (w .cart / 0x100 % 0x100) 0 || ltb most (w .cart / 0x100 % 0x100)) && not (oddIn w))
-    && leb (16 + w .cart / 0x100 % 0x100 * 16384 + w .cart / 0x10000 % 0x100 * 8192) (w .length)
-    && ltb (w .cart / 64 % 4) 2
+-- the first word has nothing beside
+unfoldable pub cartIsWhole : MapperType → ℕ → Bool
+cartIsWhole k c = eqb (cartWord (cartAs k (flatDigits cartSizes c) 0) (screensOf (flatDigits cartSizes c))) c
+
+-- MMC1's digits in their ranges, and no others
+unfoldable pub mmc1IsKept : ℕ → Bool
+mmc1IsKept b = mmc1.fits (mmc1Of (flatDigits banksSizes b)) && eqb (banksWord uxrom.start cnrom.start (mmc1Of (flatDigits banksSizes b))) b
+
+-- of the banks, those of the mapper
+unfoldable pub banksAreKept : MapperType → ℕ → Bool
+banksAreKept k b =
+    cond (isMapper k Mmc1) (mmc1IsKept b)
+    (cond (isMapper k Uxrom) (eqb (banksWord (uxromOf (flatDigits banksSizes b)) cnrom.start mmc1.unused) b)
+    (cond (isMapper k Cnrom) (eqb (banksWord uxrom.start (cnromOf (flatDigits banksSizes b)) mmc1.unused) b) (eqb b 0)))
+
+-- MMC3's in their ranges, and nothing beside
+unfoldable pub mmc3Fits : mmc3-type.Mmc3 → ℕ → ℕ → Bool
+mmc3Fits m r q = mmc3.fits m && eqb (regsWord (m .regs)) r && eqb (irqWord m) q
+
+-- or, on another board, at their start: all 0 but for RAM, which is enabled
+unfoldable pub mmc3IsKept : MapperType → ℕ → ℕ → Bool
+mmc3IsKept k r q =
+    cond (isMapper k Mmc3) (mmc3Fits (mmc3Of (flatDigits bytes r) (flatDigits irqSizes q)) r q) (eqb r 0 && eqb q 0x1000000)
+
+-- the parts that a board has its own of
+abbrev pub fitsOn : MapperType → Words → Bool
+fitsOn k w =
+    prgFits k (w .cart) && screensAreKept k (w .cart) && cartIsWhole k (w .cart) && banksAreKept k (w .banks) && mmc3IsKept k (w .regs) (w .irq)
+
+-- all six parts
+abbrev pub inParts : Words → Bool
+inParts w = couldLoadIn (w .cart) (w .length) && fitsOn (mapperOf (flatDigits cartSizes (w .cart))) w
+
+-- the words of a board after a clock: all but the last as they were
+abbrev pub afterClock : Words → Board → Words
+afterClock w b =
+    record { cart = w .cart; length = w .length; banks = w .banks; regs = w .regs; irq = irqWord (b .registers .mmc3) }

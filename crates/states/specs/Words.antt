@@ -1,33 +1,25 @@
 -- A board as five words, each a row of digits, the first one lowest: docs/ABI.md, "The state".
-use Prim.Native.Nat.{ℕ, _+_, _-_, _*_, _/_, _%_}
-use mathlib.Core.Bool.{Bool, cond}
-use mathlib.Core.List.{[], _∷_}
-use lib.Dec.{ltb, eqb}
-use Rattle.common.specs.Common.{modeNumber}
-use Rattle.common.specs.declared.Mode.{Mode}
-use Rattle.common.specs.declared.Mode.the-variants.{House, Board as OnBoard}
+use Prim.Native.Nat.{ℕ}
+use mathlib.Core.Bool.{Bool, cond, _&&_}
+use mathlib.Core.List.{List, [], _∷_, _++_}
+use lib.Dec.{eqb}
+use mir.Val.{boolByte}
+use Rattle.rules.specs.Rows.{digit, bytes}
+use Rattle.rules.specs.Flat.{flatWord, flatDigits}
+use Rattle.common.specs.Common.{modeNumber, modeOf}
 use Rattle.cartridge.specs.Answers.{mapperNumber}
+use Rattle.cartridge.specs.Load.{mapperType}
 use Rattle.cartridge.specs.declared.Cartridge.{Cartridge}
 use Rattle.cartridge.specs.declared.MapperType.{MapperType}
-use Rattle.cartridge.specs.declared.MapperType.the-variants.{Nrom, Mmc1, Uxrom, Cnrom, Mmc3}
 use Rattle.cartridge.specs.declared.Mirroring.{Mirroring}
 use Rattle.cartridge.specs.declared.Mirroring.the-variants.{Horizontal, Vertical, SingleScreenUpper, SingleScreenLower}
-use Rattle.uxrom.specs.Uxrom as uxrom
-use Rattle.uxrom.specs.declared.Uxrom as uxrom-type
-use Rattle.cnrom.specs.Cnrom as cnrom
-use Rattle.cnrom.specs.declared.Cnrom as cnrom-type
-use Rattle.mmc1.specs.Range as mmc1
-use Rattle.mmc1.specs.declared.Mmc1 as mmc1-type
-use Rattle.mmc1.specs.declared.Serial.{Serial}
-use Rattle.mmc3.specs.Range as mmc3
-use Rattle.mmc3.specs.Read.{register}
-use Rattle.mmc3.specs.declared.Mmc3 as mmc3-type
+use Rattle.uxrom.specs.declared.Uxrom.{Uxrom}
+use Rattle.cnrom.specs.declared.Cnrom.{Cnrom}
+use Rattle.mmc1.specs.declared.Mmc1.{Mmc1}
+use Rattle.mmc3.specs.declared.Mmc3.{Mmc3}
 use Rattle.boards.specs.declared.Board.{Board}
+use Rattle.boards.specs.declared.Registers.{Registers}
 use Rattle.states.specs.declared.Words.{Words}
-
--- the mode of a digit
-unfoldable pub modeOf : ℕ → Mode
-modeOf d = cond (eqb d 0) House OnBoard
 
 -- a mirroring's digit: H, V, upper, lower
 abbrev pub mirroringDigit : Mirroring → ℕ
@@ -40,147 +32,103 @@ mirroringDigit SingleScreenLower = 3
 unfoldable pub mirroringOf : ℕ → Mirroring
 mirroringOf d = cond (eqb d 0) Horizontal (cond (eqb d 1) Vertical (cond (eqb d 2) SingleScreenUpper SingleScreenLower))
 
--- a mark's digit
-unfoldable pub bit : Bool → ℕ
-bit on = cond on 1 0
+-- word 0: version, mapper, mode, NES 2.0 mark, header's mirroring, current mirroring, PRG RAM, PRG count, CHR count
+abbrev pub cartSizes : List ℕ
+cartSizes = 0x100 ∷ 0x100 ∷ 2 ∷ 2 ∷ 4 ∷ 4 ∷ 4 ∷ 0x1000 ∷ 0x1000 ∷ []
 
--- the serial register's digit: 2^count - 1, and above it the bits that have entered
-unfoldable pub serialDigit : Serial → ℕ
-serialDigit s =
-    cond (eqb (s .count) 0) 0
-    (cond (eqb (s .count) 1) (1 + s .value / 16)
-    (cond (eqb (s .count) 2) (3 + s .value / 8)
-    (cond (eqb (s .count) 3) (7 + s .value / 4) (15 + s .value / 2))))
+-- "version 1"; PRG RAM is there on every board
+abbrev pub cartDigits : Cartridge → Mirroring → List ℕ
+cartDigits c m =
+    1 ∷ mapperNumber (c .mapper) ∷ modeNumber (c .mode) ∷ boolByte (c .nes2) ∷ mirroringDigit (c .mirroring) ∷ mirroringDigit m ∷ 1 ∷ c .prg ∷ c .chr
+    ∷ []
 
--- a serial register with so many bits
-abbrev entered : ℕ → ℕ → Serial
-entered n v = record { count = n; value = v }
+-- of a cartridge and the current mirroring
+abbrev pub cartWord : Cartridge → Mirroring → ℕ
+cartWord c m = flatWord cartSizes (cartDigits c m)
 
--- the serial register of the lowest digit, of 32
-unfoldable pub serialOf : ℕ → Serial
-serialOf n =
-    cond (ltb (n % 32) 1) (entered 0 0)
-    (cond (ltb (n % 32) 3) (entered 1 ((n % 32 - 1) * 16))
-    (cond (ltb (n % 32) 7) (entered 2 ((n % 32 - 3) * 8))
-    (cond (ltb (n % 32) 15) (entered 3 ((n % 32 - 7) * 4)) (entered 4 ((n % 32 - 15) * 2)))))
+-- what these digits say of the mapper
+abbrev pub mapperOf : List ℕ → MapperType
+mapperOf d = mapperType (digit d 1)
 
--- word 0: mode 2, NES 2.0 mark 2, mapper 16, header mirroring 4, PRG count 256, CHR count 256, current mirroring 4
-unfoldable pub cartWord : Cartridge → Mirroring → ℕ
-cartWord c m =
-    modeNumber (c .mode) + bit (c .nes2) * 2 + mapperNumber (c .mapper) * 4 + mirroringDigit (c .mirroring) * 64 + c .prg * 0x100
-    + c .chr * 0x10000
-    + mirroringDigit m * 0x1000000
-
--- what it says of the cartridge; word 1 is the image's length
-unfoldable pub cartAs : MapperType → Words → Cartridge
-cartAs m w =
+-- of the cartridge; word 1 is the image's length
+abbrev pub cartOf : List ℕ → ℕ → Cartridge
+cartOf d length =
     record {
-      mode = modeOf (w .cart % 2);
-      mapper = m;
-      nes2 = eqb (w .cart / 2 % 2) 1;
-      mirroring = mirroringOf (w .cart / 64 % 4);
-      prg = w .cart / 0x100 % 0x100;
-      chr = w .cart / 0x10000 % 0x100;
-      length = w .length;
+      mode = modeOf (digit d 2);
+      mapper = mapperOf d;
+      nes2 = eqb (digit d 3) 1;
+      mirroring = mirroringOf (digit d 4);
+      prg = digit d 7;
+      chr = digit d 8;
+      length = length;
     }
 
 -- and of the current mirroring
-unfoldable pub screensIn : Words → Mirroring
-screensIn w = mirroringOf (w .cart / 0x1000000 % 4)
+abbrev pub screensOf : List ℕ → Mirroring
+screensOf d = mirroringOf (digit d 5)
 
--- word 2: UxROM bank 256, CNROM bank 4, MMC1 serial 32, PRG mode 4, CHR mode 2, CHR 0 32, CHR 1 32, PRG 16
-unfoldable pub banksWord : uxrom-type.Uxrom → cnrom-type.Cnrom → mmc1-type.Mmc1 → ℕ
-banksWord u c m =
-    u .bank + c .bank * 0x100 + serialDigit (m .serial) * 0x400 + m .regs .prgmode * 0x8000 + m .regs .chrmode * 0x20000
-    + m .regs .chr0 * 0x40000
-    + m .regs .chr1 * 0x800000
-    + m .regs .prg * 0x10000000
+-- word 2: UxROM bank, CNROM bank, AxROM bank, GxROM's PRG and CHR bank; MMC1 serial count and value, PRG mode, CHR mode, CHR 0, CHR 1, PRG
+abbrev pub banksSizes : List ℕ
+banksSizes = 0x100 ∷ 4 ∷ 8 ∷ 4 ∷ 4 ∷ 8 ∷ 32 ∷ 4 ∷ 2 ∷ 32 ∷ 32 ∷ 16 ∷ []
 
--- what it says of MMC1
-unfoldable pub mmc1In : Words → mmc1-type.Mmc1
-mmc1In w =
+-- AxROM's and GxROM's are reserved
+abbrev pub banksDigits : Uxrom → Cnrom → Mmc1 → List ℕ
+banksDigits u c m =
+    u .bank ∷ c .bank ∷ 0 ∷ 0 ∷ 0 ∷ m .serial .count ∷ m .serial .value ∷ m .regs .prgmode ∷ m .regs .chrmode ∷ m .regs .chr0 ∷ m .regs .chr1
+    ∷ m .regs .prg
+    ∷ []
+
+-- of the boards' banks
+abbrev pub banksWord : Uxrom → Cnrom → Mmc1 → ℕ
+banksWord u c m = flatWord banksSizes (banksDigits u c m)
+
+-- what these digits say of UxROM
+abbrev pub uxromOf : List ℕ → Uxrom
+uxromOf d = record { bank = digit d 0 }
+
+-- of CNROM
+abbrev pub cnromOf : List ℕ → Cnrom
+cnromOf d = record { bank = digit d 1 }
+
+-- of MMC1
+abbrev pub mmc1Of : List ℕ → Mmc1
+mmc1Of d =
     record {
-      serial = serialOf (w .banks / 0x400);
-      regs =
-          record {
-            prgmode = w .banks / 0x8000 % 4;
-            chrmode = w .banks / 0x20000 % 2;
-            chr0 = w .banks / 0x40000 % 32;
-            chr1 = w .banks / 0x800000 % 32;
-            prg = w .banks / 0x10000000 % 16;
-          };
+      serial = record { count = digit d 5; value = digit d 6 };
+      regs = record { prgmode = digit d 7; chrmode = digit d 8; chr0 = digit d 9; chr1 = digit d 10; prg = digit d 11 };
     }
 
--- word 3: MMC3 R0 / 2 128, R1 / 2 128, R2 to R5 256 each, R6 64, R7 64
-unfoldable pub rowOf : ℕ → ℕ → ℕ → ℕ → ℕ → ℕ → ℕ → ℕ → ℕ
-rowOf r0 r1 r2 r3 r4 r5 r6 r7 =
-    r0 / 2 + r1 / 2 * 0x80 + r2 * 0x4000 + r3 * 0x400000 + r4 * 0x40000000 + r5 * 0x4000000000 + r6 * 0x400000000000
-    + r7 * 0x10000000000000
+-- word 3: MMC3 R0 to R7, a byte each
+abbrev pub regsDigits : List ℕ → List ℕ
+regsDigits r = digit r 0 ∷ digit r 1 ∷ digit r 2 ∷ digit r 3 ∷ digit r 4 ∷ digit r 5 ∷ digit r 6 ∷ digit r 7 ∷ []
 
--- of a board's eight registers
-unfoldable pub regsWord : mmc3-type.Mmc3 → ℕ
-regsWord m =
-    rowOf (register m 0) (register m 1) (register m 2) (register m 3) (register m 4) (register m 5) (register m 6) (register m 7)
+-- of the eight registers
+abbrev pub regsWord : List ℕ → ℕ
+regsWord r = flatWord bytes (regsDigits r)
 
--- word 4: latch 256, counter 256, select 8, PRG mode 2, CHR mode 2, IRQ enabled 2, reload mark 2
-unfoldable pub irqWord : mmc3-type.Mmc3 → ℕ
-irqWord m =
-    m .irq .latch + m .irq .counter * 0x100 + m .select * 0x10000 + m .prgmode * 0x80000 + m .chrmode * 0x100000
-    + bit (m .irq .enabled) * 0x200000
-    + bit (m .irq .reload) * 0x400000
+-- word 4: MMC3 latch, counter, select, PRG mode, CHR mode, IRQ enabled, reload mark, IRQ line; RAM enabled, RAM writes denied
+abbrev pub irqSizes : List ℕ
+irqSizes = 0x100 ∷ 0x100 ∷ 8 ∷ 2 ∷ 2 ∷ 2 ∷ 2 ∷ 2 ∷ 2 ∷ 2 ∷ []
 
--- what words 3 and 4 say of MMC3
-unfoldable pub mmc3In : Words → mmc3-type.Mmc3
-mmc3In w =
+-- the line and RAM's two marks are reserved: low, enabled and writable
+abbrev pub irqDigits : Mmc3 → List ℕ
+irqDigits m =
+    m .irq .latch ∷ m .irq .counter ∷ m .select ∷ m .prgmode ∷ m .chrmode ∷ boolByte (m .irq .enabled) ∷ boolByte (m .irq .reload) ∷ 0 ∷ 1 ∷ 0 ∷ []
+
+-- of the rest of MMC3
+abbrev pub irqWord : Mmc3 → ℕ
+irqWord m = flatWord irqSizes (irqDigits m)
+
+-- what the digits of words 3 and 4 say of MMC3
+abbrev pub mmc3Of : List ℕ → List ℕ → Mmc3
+mmc3Of r q =
     record {
-      select = w .irq / 0x10000 % 8;
-      prgmode = w .irq / 0x80000 % 2;
-      chrmode = w .irq / 0x100000 % 2;
-      regs =
-          w .regs % 0x80 * 2
-          ∷ w .regs / 0x80 % 0x80 * 2
-          ∷ w .regs / 0x4000 % 0x100
-          ∷ w .regs / 0x400000 % 0x100
-          ∷ w .regs / 0x40000000 % 0x100
-          ∷ w .regs / 0x4000000000 % 0x100
-          ∷ w .regs / 0x400000000000 % 0x40
-          ∷ w .regs / 0x10000000000000 % 0x40
-          ∷ [];
-      irq =
-          record {
-            enabled = eqb (w .irq / 0x200000 % 2) 1;
-            latch = w .irq % 0x100;
-            counter = w .irq / 0x100 % 0x100;
-            reload = eqb (w .irq / 0x400000 % 2) 1;
-          };
+      select = digit q 2;
+      prgmode = digit q 3;
+      chrmode = digit q 4;
+      regs = regsDigits r;
+      irq = record { enabled = eqb (digit q 5) 1; latch = digit q 0; counter = digit q 1; reload = eqb (digit q 6) 1 };
     }
-
--- the board of a mapper that the words hold; what it doesn't use has its start value
-unfoldable pub boardAs : MapperType → Words → Board
-boardAs Nrom w =
-    record { cart = cartAs Nrom w; mirroring = screensIn w; uxrom = uxrom.start; cnrom = cnrom.start; mmc1 = mmc1.unused; mmc3 = mmc3.start }
-boardAs Mmc1 w =
-    record { cart = cartAs Mmc1 w; mirroring = screensIn w; uxrom = uxrom.start; cnrom = cnrom.start; mmc1 = mmc1In w; mmc3 = mmc3.start }
-boardAs Uxrom w =
-    record {
-      cart = cartAs Uxrom w;
-      mirroring = screensIn w;
-      uxrom = record { bank = w .banks % 0x100 };
-      cnrom = cnrom.start;
-      mmc1 = mmc1.unused;
-      mmc3 = mmc3.start;
-    }
-boardAs Cnrom w =
-    record {
-      cart = cartAs Cnrom w;
-      mirroring = screensIn w;
-      uxrom = uxrom.start;
-      cnrom = record { bank = w .banks / 0x100 % 4 };
-      mmc1 = mmc1.unused;
-      mmc3 = mmc3.start;
-    }
-boardAs Mmc3 w =
-    record { cart = cartAs Mmc3 w; mirroring = screensIn w; uxrom = uxrom.start; cnrom = cnrom.start; mmc1 = mmc1.unused; mmc3 = mmc3In w }
 
 -- the words of a board
 unfoldable pub wordsOf : Board → Words
@@ -188,7 +136,34 @@ wordsOf b =
     record {
       cart = cartWord (b .cart) (b .mirroring);
       length = b .cart .length;
-      banks = banksWord (b .uxrom) (b .cnrom) (b .mmc1);
-      regs = regsWord (b .mmc3);
-      irq = irqWord (b .mmc3);
+      banks = banksWord (b .registers .uxrom) (b .registers .cnrom) (b .registers .mmc1);
+      regs = regsWord (b .registers .mmc3 .regs);
+      irq = irqWord (b .registers .mmc3);
     }
+
+-- and of all registers
+abbrev pub registersOf : List ℕ → List ℕ → List ℕ → Registers
+registersOf b r q = record { uxrom = uxromOf b; cnrom = cnromOf b; mmc1 = mmc1Of b; mmc3 = mmc3Of r q }
+
+-- the board of four rows of digits and a length
+abbrev pub boardOf : List ℕ → ℕ → List ℕ → List ℕ → List ℕ → Board
+boardOf c length b r q = record { cart = cartOf c length; mirroring = screensOf c; registers = registersOf b r q }
+
+-- the board that the digits of any words give
+unfoldable pub boardIn : Words → Board
+boardIn w =
+    boardOf (flatDigits cartSizes (w .cart)) (w .length) (flatDigits banksSizes (w .banks)) (flatDigits bytes (w .regs))
+    (flatDigits irqSizes (w .irq))
+
+-- the digits of all five words, in the order of the table
+abbrev pub digitsOf : Words → List ℕ
+digitsOf w =
+    flatDigits cartSizes (w .cart)
+    ++ (w .length ∷ [])
+    ++ flatDigits banksSizes (w .banks)
+    ++ flatDigits bytes (w .regs)
+    ++ flatDigits irqSizes (w .irq)
+
+-- whether all five words are the same
+unfoldable pub same : Words → Words → Bool
+same v w = eqb (v .cart) (w .cart) && eqb (v .length) (w .length) && eqb (v .banks) (w .banks) && eqb (v .regs) (w .regs) && eqb (v .irq) (w .irq)

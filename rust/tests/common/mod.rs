@@ -1,7 +1,7 @@
 //! Images and the parts of a board that a refusal must leave, for all tests.
 #![allow(dead_code)] // each test file uses a part
 
-use biekkarul::{Board, Mode, RAM_LENGTH, STATE_LENGTH};
+use biekkarul::{Board, Digit, Digits, Mode, DIGITS, RAM_LENGTH, STATE_LENGTH};
 
 pub const HEADER: usize = 16;
 pub const PRG_BLOCK: usize = 16_384;
@@ -61,11 +61,37 @@ pub fn serial(
     board.write(address, value >> 4 & 1)
 }
 
-/// A digit of a word of the state: what stands from this bit on, modulo so many.
-pub fn digit(state: &[u8; STATE_LENGTH], word: usize, bit: u32, modulo: u64) -> u64 {
-    let mut bytes = [0; 8];
-    bytes.copy_from_slice(&state[8 * word..8 * word + 8]);
-    (u64::from_le_bytes(bytes) >> bit) % modulo
+/// The bits of each digit, word by word: the tests' own copy of docs/ABI.md, to make states with.
+const WIDTHS: [&[u32]; 5] = [
+    &[8, 8, 1, 1, 2, 2, 2, 12, 12],
+    &[64],
+    &[8, 2, 3, 2, 2, 3, 5, 2, 1, 5, 5, 4],
+    &[8; 8],
+    &[8, 8, 3, 1, 1, 1, 1, 1, 1, 1],
+];
+
+/// The state that has these digits, each below its size, whether a board could have it or not.
+pub fn packed(digits: &[u64; DIGITS]) -> [u8; STATE_LENGTH] {
+    let mut state = [0; STATE_LENGTH];
+    let mut digits = digits.iter();
+    for (widths, bytes) in WIDTHS.iter().zip(state.chunks_mut(8)) {
+        let mut from = 0;
+        let mut word = 0;
+        for (width, digit) in widths.iter().zip(&mut digits) {
+            assert!(*width == 64 || *digit < 1 << width);
+            word |= digit << from;
+            from += width;
+        }
+        bytes.copy_from_slice(&u64::to_le_bytes(word));
+    }
+    state
+}
+
+/// The digits with one of them at another value.
+pub fn with(digits: Digits, digit: Digit, value: u64) -> [u64; DIGITS] {
+    let mut changed = *digits.all();
+    changed[digit as usize] = value;
+    changed
 }
 
 /// A fixed sequence of numbers without a pattern that a board would follow.

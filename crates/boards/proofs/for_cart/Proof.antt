@@ -9,4 +9,5 @@ unfolding startOf
 for-cart-spec =
     tie.close
     (tie.spec
-    (λ c κs. search picks) (λ c κs. search picks) (λ c κs. search picks) (λ c κs. search picks) (λ c. cc))
+    (λ c κs. search picks)
+    (λ c. cc))

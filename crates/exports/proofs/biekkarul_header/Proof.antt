@@ -12,5 +12,8 @@ biekkarul-header-spec =
     (λ c. search picks)
     (λ c. search picks)
     (λ c. search picks)
-    (λ c. record { reply = simp (c .before .before .put-fields .ensures .reply, c .before .before .before .before .parse .ensures, eq-eqb _ _ (c .before .before .before .before .before .if1 .taken)); fields = simp (c .before .before .put-fields .ensures .fields, c .before .before .before .before .parse .ensures, eq-eqb _ _ (c .before .before .before .before .before .if1 .taken)) })
+    (λ c. record {
+      reply = simp (c .before .before .put-fields .ensures .reply, c .before .before .before .before .parse .ensures, eq-eqb _ _ (c .before .before .before .before .before .if1 .taken));
+      fields = simp (c .before .before .put-fields .ensures .fields, c .before .before .before .before .parse .ensures, eq-eqb _ _ (c .before .before .before .before .before .if1 .taken));
+    })
     (λ c. record { reply = simp (c .refusal .ensures, ne-eqb _ _ (c .before .if1 .left)); fields = simp (ne-eqb _ _ (c .before .if1 .left)) }))

@@ -1,29 +1,39 @@
--- 9, 10, then the words of the board; a refusal is 256 or more, so the state is left. Assumes nothing.
-use borrow.Author.Tests.{eq-eqb, ne-eqb}
+-- The board's own write, and what it leaves. Assumes nothing.
+use mathlib.Core.Path.{ap, _∙_}
+use mathlib.Core.Bool.{_&&_}
+use Rattle.states.specs.Kept.{isKept}
+use Rattle.states.specs.Steps.{couldLoadIn, fitsOn}
+use Rattle.states.proofs.Judged.{in-parts}
 use Rattle.rules.proofs.Picks.{picks}
-use Rattle.boards.specs.Range.{guarded}
-use Rattle.boards.specs.Write.{writtenAs}
-use Rattle.exports.specs.Bytes.{kept}
-use Rattle.exports.specs.Numbers.{refused, writeNumber}
-use Rattle.exports.specs.Steps.{keptPlace, landingOn, movedBy}
-use Rattle.places.specs.Places.{storedPrg, storedChr}
 use Rattle.exports.proofs.biekkarul_write.Statement.{statement}
 use Rattle.exports.proofs.biekkarul_write.Tie as tie
 
 pub biekkarul-write-spec : {M : Type 1} → statement M
-unfolding landingOn keptPlace guarded movedBy kept writtenAs storedPrg storedChr writeNumber refused
 biekkarul-write-spec =
     tie.close
     (tie.spec
-    (λ c. search picks)
-    (λ c. search picks)
-    (λ c. search picks)
-    (λ c. search picks)
-    (λ c. search picks)
-    (λ c. search picks)
-    (λ c. search picks)
-    (λ c. search picks)
-    (λ c. search picks)
-    (λ c. let f = c .before .before .before .before .before .before .before .before .before .before .before .before .before .before .before .rams-fit .ensures in let e = c .before .before .before .before .before .before .before .before .before .before .before .before .before .before .if1 .taken in let n = eq-eqb _ _ (c .before .before .before .before .before .before .before .before .before .before .before .before .before .if2 .taken) in let d = c .before .before .before .before .before .before .before .before .before .before .before .words-in .ensures in let w = c .before .before .before .before .before .before .before .before .write-in .ensures in record { reply = simp (← f, e, n, w .reply, d); state = simp (← f, e, n, c .before .before .keep .ensures, w .reply, d); prg-ram = simp (← f, e, n, w .prg-ram, d); chr-ram = simp (← f, e, n, w .chr-ram, d) })
-    (λ c. let f = c .before .before .before .rams-fit .ensures in let e = c .before .before .if1 .taken in let n = ne-eqb _ _ (c .before .if2 .left) in record { reply = simp (← f, e, n, c .refusal .ensures); state = simp (n, c .refusal .ensures); prg-ram = simp (← f, e, n); chr-ram = simp (← f, e, n) })
-    (λ c. let f = c .before .before .rams-fit .ensures in let e = c .before .if1 .left in record { reply = simp (← f, e, c .refusal2 .ensures); state = simp (c .refusal2 .ensures); prg-ram = simp (← f, e); chr-ram = simp (← f, e) }))
+    (λ c κs. search picks) (λ c κs. search picks)
+    (λ c κs. search picks) (λ c κs. search picks) (λ c κs. search picks) (λ c κs. search picks) (λ c κs. search picks)
+    (λ c κs. search picks) (λ c κs. search picks) (λ c κs. search picks) (λ c κs. search picks) (λ c κs. search picks)
+    (λ c κs. search picks) (λ c. search picks) (λ c. search picks) (λ c. search picks)
+    (λ c.
+    let d = c .before .before .before .before .before .before .before .before .before .before .before .before .before .before .before in
+    let w = d .before .before .before .before .before .before .before .before .words-in .ensures in
+    let v = d .before .before .before .before .before .before .before .before .words-in .result in
+    let k =
+    (λ i. d .before .before .before .before .before .could-load .ensures i
+    && (d .before .before .before .before .prg-fits .ensures i
+    && d .before .before .before .screens-are-kept .ensures i
+    && d .before .before .cart-is-whole .ensures i
+    && d .before .banks-are-kept .ensures i
+    && d .mmc3-is-kept .ensures i))
+    ∙ ap (λ x. couldLoadIn (v .cart) (v .length) && fitsOn x v) (d .before .before .before .before .before .before .mapper-in .ensures)
+    ∙ in-parts v ∙ ap isKept w in
+    let t = c .before .before .before .before .before .before .before .before .before .before .before .write-if .ensures in
+    let b = d .before .before .before .before .before .before .before .board-in .ensures in
+    record {
+      reply = simp (c .before .before .before .before .before .before .write-number .ensures, t .reply, k, b, w);
+      state = simp (c .before .before .keep .ensures, c .before .before .before .words-of .ensures, t .reply, k, b, w);
+      prg-ram = simp (t .prg-ram, k, b, w);
+      chr-ram = simp (t .chr-ram, k, b, w);
+    }))

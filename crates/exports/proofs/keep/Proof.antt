@@ -1,7 +1,6 @@
--- By the answer; five words put over forty bytes leave none of them. Assumes nothing.
-use borrow.Author.Tests.{lt-ltb}
+-- By the answer, and the room for a board. Assumes nothing.
+use borrow.Author.Tests.{lt-ltb, le-ltb, eq-eqb, ne-eqb}
 use Rattle.rules.proofs.Picks.{picks}
-use Rattle.exports.proofs.Put.{all-put}
 use Rattle.exports.specs.Bytes.{kept}
 use Rattle.exports.proofs.keep.Statement.{statement}
 use Rattle.exports.proofs.keep.Tie as tie
@@ -11,11 +10,6 @@ unfolding kept
 keep-spec =
     tie.close
     (tie.spec
-    (λ c. search picks)
-    (λ c. search picks)
-    (λ c. search picks)
-    (λ c. search picks)
-    (λ c. search picks)
-    (λ c. search picks)
-    (λ c. let x = c .before .before .before .before .before .before .before .before .before .before .before .before .before .before .before .before .before .before .before .before .before .before .before .before in simp (lt-ltb _ _ (c .before .before .before .before .before .before .before .before .before .before .before .before .before .before .before .before .before .before .before .before .before .if1 .taken)) (all-put (x .args .state .now) _ _ _ _ _ (x .args .moved .words) (x .pre) (c .before .before .before .before .before .before .before .before .before .before .before .before .before .before .before .before .before .before .put-word .ensures) (c .before .before .before .before .before .before .before .before .before .before .before .before .before .before .put-word2 .ensures) (c .before .before .before .before .before .before .before .before .before .before .put-word3 .ensures) (c .before .before .before .before .before .before .put-word4 .ensures) (c .before .before .put-word5 .ensures)))
-    (λ c. search picks))
+    (λ c κs. search picks) (λ c. search picks)
+    (λ c. simp (lt-ltb _ _ (c .before .before .before .before .before .if1 .taken), eq-eqb _ _ (c .before .before .before .before .if2 .taken), c .before .before .put-words .ensures))
+    (λ c. simp (lt-ltb _ _ (c .before .if1 .taken), ne-eqb _ _ (c .if2 .left))) (λ c. simp (le-ltb _ _ (c .if1 .left))))

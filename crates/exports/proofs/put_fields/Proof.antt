@@ -18,5 +18,8 @@ put-fields-spec =
     (λ c. search picks)
     (λ c. search picks)
     (λ c. search picks)
-    (λ c. record { reply = simp (c .before .before .before .before .before .before .before .answer .given .1); fields = simp (c .before .before .copy .ensures, c .before .before .before .before .fields-of .ensures, c .before .before .before .before .before .before .before .answer .given .1, eq-eqb _ _ (c .before .before .before .before .before .before .before .before .before .before .pre)) })
+    (λ c. record {
+      reply = simp (c .before .before .before .before .before .before .before .answer .given .1);
+      fields = simp (c .before .before .copy .ensures, c .before .before .before .before .fields-of .ensures, c .before .before .before .before .before .before .before .answer .given .1, eq-eqb _ _ (c .before .before .before .before .before .before .before .before .before .before .pre));
+    })
     (λ c. record { reply = simp (c .refusal .ensures, c .before .before .answer2 .given .1); fields = simp (c .before .before .answer2 .given .1) }))

@@ -1,4 +1,4 @@
--- The byte at the place, as a number. Assumes nothing.
+-- What the callees promise, together. Assumes nothing.
 use Rattle.rules.proofs.Picks.{picks}
 use Rattle.exports.specs.Steps.{readAt}
 use Rattle.exports.proofs.read_at.Statement.{statement}
@@ -6,10 +6,4 @@ use Rattle.exports.proofs.read_at.Tie as tie
 
 pub read-at-spec : {M : Type 1} → statement M
 unfolding readAt
-read-at-spec =
-    tie.close
-    (tie.spec
-    (λ c. search picks)
-    (λ c. search picks)
-    (λ c. search picks)
-    (λ c. simp (c .read-number .ensures, c .before .answer-at .ensures, c .before .before .byte-of .ensures)))
+read-at-spec = tie.close (tie.spec (λ c κs. search picks) (λ c κs. search picks) (λ c κs. search picks) (λ c. cc))

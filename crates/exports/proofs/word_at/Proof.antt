@@ -1,4 +1,6 @@
 -- Eight bytes that stand within the slice. Assumes nothing.
+use mathlib.Core.Path.{sym, _∙_}
+use Rattle.exports.proofs.Put.{eight-at}
 use Rattle.rules.proofs.Picks.{picks}
 use Rattle.exports.specs.Bytes.{wordAt}
 use Rattle.exports.proofs.word_at.Statement.{statement}
@@ -9,20 +11,9 @@ unfolding wordAt
 word-at-spec =
     tie.close
     (tie.spec
-    (λ c. search picks)
-    (λ c. search picks)
-    (λ c. search picks)
-    (λ c. search picks)
-    (λ c. search picks)
-    (λ c. search picks)
-    (λ c. search picks)
-    (λ c. search picks)
-    (λ c. search picks)
-    (λ c. search picks)
-    (λ c. search picks)
-    (λ c. search picks)
-    (λ c. search picks)
-    (λ c. search picks)
-    (λ c. search picks)
-    (λ c. search picks)
-    (λ c. simp (c .word .ensures)))
+    (λ c. search picks) (λ c. search picks) (λ c. search picks) (λ c. search picks) (λ c. search picks)
+    (λ c. search picks) (λ c. search picks) (λ c. search picks) (λ c. search picks) (λ c. search picks)
+    (λ c. search picks) (λ c. search picks) (λ c. search picks) (λ c. search picks) (λ c. search picks)
+    (λ c κs. search picks)
+    (λ c.
+    let x = c .before .before .before .before .before .before .before .before .before .before in (c .word .ensures .0, c .word .ensures .1 ∙ sym (eight-at (x .args .i) (x .args .s .now) (x .pre)))))

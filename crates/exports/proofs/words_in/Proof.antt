@@ -1,4 +1,5 @@
--- Five words, eight bytes each. Assumes nothing.
+-- By the length. Assumes nothing.
+use borrow.Author.Tests.{eq-eqb, ne-eqb}
 use Rattle.rules.proofs.Picks.{picks}
 use Rattle.exports.specs.Bytes.{wordsIn}
 use Rattle.exports.proofs.words_in.Statement.{statement}
@@ -9,9 +10,5 @@ unfolding wordsIn
 words-in-spec =
     tie.close
     (tie.spec
-    (λ c. search picks)
-    (λ c. search picks)
-    (λ c. search picks)
-    (λ c. search picks)
-    (λ c. search picks)
-    (λ c. simp (c .word-at5 .ensures, c .before .word-at4 .ensures, c .before .before .word-at3 .ensures, c .before .before .before .word-at2 .ensures, c .before .before .before .before .word-at .ensures)))
+    (λ c κs. search picks) (λ c. simp (eq-eqb _ _ (c .before .if1 .taken), c .five-words .ensures))
+    (λ c. simp (ne-eqb _ _ (c .if1 .left))))

@@ -9,7 +9,4 @@ unfolding mirroringOf
 mirroring-of-spec =
     tie.close
     (tie.spec
-    (λ c. search picks)
-    (λ c. search picks)
-    (λ c. search picks)
-    (λ c. search picks))
+    (λ c. search picks) (λ c. search picks) (λ c. search picks) (λ c. search picks))

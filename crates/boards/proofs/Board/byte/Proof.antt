@@ -1,5 +1,8 @@
--- By the five mappers. Assumes nothing.
+-- MMC1 reads the byte at its own place, the others at the place that they are given. Assumes nothing.
 use Rattle.rules.proofs.Picks.{picks}
+use mathlib.Core.Path.{sym, _∙_}
+use Rattle.cartridge.proofs.Mappers.{is-this}
+use Rattle.cartridge.specs.declared.MapperType.the-variants.{Mmc1}
 use Rattle.boards.specs.Read.{readPlace, readPlaceOn}
 use Rattle.boards.proofs.Board.byte.Statement.{statement}
 use Rattle.boards.proofs.Board.byte.Tie as tie
@@ -9,10 +12,7 @@ unfolding readPlace readPlaceOn
 byte-spec =
     tie.close
     (tie.spec
-    (λ c. search picks) (λ c κs. search picks) (λ c. search picks) (λ c κs. search picks) (λ c. search picks)
-    (λ c κs. search picks) (λ c. search picks) (λ c κs. search picks) (λ c. search picks) (λ c κs. search picks)
-    (λ c. simp (c .read8 .ensures, c .before .enum-told .given .1))
-    (λ c. simp (c .byte-of .ensures, c .before .before .before .before .before .before .before .before .pre))
-    (λ c. simp (c .byte-of2 .ensures, c .before .before .before .before .before .before .before .before .pre))
-    (λ c. simp (c .byte-of3 .ensures, c .before .before .before .before .before .before .before .before .pre))
-    (λ c. simp (c .byte-of4 .ensures, c .before .before .before .before .before .before .before .before .pre)))
+    (λ c κs. search picks) (λ c κs. search picks)
+    (λ c. simp (c .read8 .ensures, is-this _ Mmc1 (sym (c .before .before .is .ensures) ∙ c .before .if1 .taken)))
+    (λ c κs. search picks)
+    (λ c. simp (c .byte-of .ensures, c .before .before .before .before .before .before .before .before .before .pre)))

@@ -1,13 +1,12 @@
--- The definition composes what the callees promise. Assumes nothing.
+-- What the callees promise, together. Assumes nothing.
 use Rattle.rules.proofs.Picks.{picks}
-use Rattle.boards.specs.Range.{inRange}
+use Rattle.boards.specs.Range.{mirroringFits, inRange}
 use Rattle.boards.proofs.Board.in_range.Statement.{statement}
 use Rattle.boards.proofs.Board.in_range.Tie as tie
 
 pub in-range-spec : {M : Type 1} → statement M
-unfolding inRange
+unfolding inRange mirroringFits
 in-range-spec =
     tie.close
-    (tie.spec
-    (λ c κs. search picks) (λ c κs. search picks) (λ c κs. search picks)
-    (λ c. simp (c .mirroring-fits .ensures, c .before .registers-fit .ensures, c .before .before .could-load .ensures)))
+    (tie.spec (λ c κs. search picks) (λ c κs. search picks) (λ c κs. search picks)
+    (λ c. simp (c .screens-kept .ensures, c .before .fits2 .ensures, c .before .before .could-load .ensures)))

@@ -6,4 +6,4 @@ use Rattle.boards.proofs.Board.is_loaded.Tie as tie
 
 pub is-loaded-spec : {M : Type 1} → statement M
 unfolding isLoaded
-is-loaded-spec = tie.close (tie.spec (λ c κs. search picks) (λ c. simp (c .before .in-range .ensures)))
+is-loaded-spec = tie.close (tie.spec (λ c κs. search picks) (λ c. cc))

@@ -9,5 +9,5 @@ unfolding turned
 turned-spec =
     tie.close
     (tie.spec
-    (λ c κs. search picks) (λ c κs. search picks) (λ c κs. search picks) (λ c κs. search picks)
-    (λ c. simp (c .notice .ensures, c .before .against .ensures, c .before .before .with-mirroring .ensures, c .before .before .before .next-mirroring .ensures)))
+    (λ c κs. search picks) (λ c κs. search picks) (λ c κs. search picks)
+    (λ c. cc))

@@ -1,14 +1,13 @@
 -- The definition composes what the callees promise. Assumes nothing.
 use Rattle.rules.proofs.Picks.{picks}
-use Rattle.cartridge.specs.Load.{couldLoad}
+use Rattle.cartridge.proofs.OneBit.{by-bits}
 use Rattle.cartridge.proofs.Cartridge.could_load.Statement.{statement}
 use Rattle.cartridge.proofs.Cartridge.could_load.Tie as tie
 
 pub could-load-spec : {M : Type 1} → statement M
-unfolding couldLoad
 could-load-spec =
     tie.close
     (tie.spec
     (λ c κs. search picks) (λ c κs. search picks) (λ c κs. search picks) (λ c κs. search picks) (λ c. search picks)
     (λ c κs. search picks)
-    (λ c. simp (c .is-headers .ensures, c .before .before .needed .ensures, c .before .before .before .before .before .odd-counts .ensures, c .before .before .before .before .before .before .bad-prg .ensures, c .before .before .before .before .before .before .before .number .ensures)))
+    (λ c. simp (c .is-headers .ensures, c .before .before .needed .ensures, c .before .before .before .before .before .odd-bits .ensures, c .before .before .before .before .before .before .bad-prg .ensures, c .before .before .before .before .before .before .before .number .ensures) (by-bits (c .before .before .before .before .before .before .before .before .args .self))))

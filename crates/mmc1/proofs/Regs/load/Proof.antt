@@ -1,4 +1,4 @@
--- By the two modes. Assumes nothing.
+-- By the four registers. Assumes nothing.
 use Rattle.rules.proofs.Picks.{picks}
 use Rattle.mmc1.specs.Write.{load}
 use Rattle.mmc1.proofs.Regs.load.Statement.{statement}
@@ -9,6 +9,5 @@ unfolding load
 load-spec =
     tie.close
     (tie.spec
-    (λ c. search picks) (λ c κs. search picks) (λ c. search picks) (λ c κs. search picks)
-    (λ c. simp (c .house-load .ensures, c .before .enum-told .given .1))
-    (λ c. simp (c .board-load .ensures, c .before .enum-told2 .given .1)))
+    (λ c. search picks) (λ c. search picks) (λ c κs. search picks) (λ c. search picks) (λ c κs. search picks)
+    (λ c. search picks) (λ c. cc) (λ c. cc) (λ c. cc) (λ c. cc))

@@ -1,5 +1,6 @@
 -- The branches decide the tests of the definition. Assumes nothing.
 use Rattle.rules.proofs.Picks.{picks}
+use mathlib.Core.Path.{sym, _∙_}
 use Rattle.mmc1.specs.Read.{lowerChr}
 use Rattle.mmc1.proofs.Regs.lower_chr.Statement.{statement}
 use Rattle.mmc1.proofs.Regs.lower_chr.Tie as tie
@@ -9,4 +10,6 @@ unfolding lowerChr
 lower-chr-spec =
     tie.close
     (tie.spec
-    (λ c κs. search picks) (λ c. search picks) (λ c. search picks) (λ c. search picks) (λ c. search picks))
+    (λ c κs. search picks) (λ c κs. search picks) (λ c. search picks) (λ c. search picks)
+    (λ c. simp (c .chr-pair .ensures, sym (c .before .before .switches-8kb .ensures) ∙ c .before .if1 .taken))
+    (λ c. simp (sym (c .before .before .switches-8kb .ensures) ∙ c .before .if1 .left)))

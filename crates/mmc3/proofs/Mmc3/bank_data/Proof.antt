@@ -5,12 +5,12 @@ use native.Mathlib.Omega.{arith}
 use mathlib.Core.Path.{_≡_, refl}
 use lib.ListN.{length}
 use lib.Seq.{set-out}
-use Rattle.mmc3.specs.Write.{stored, keptBits}
+use Rattle.mmc3.specs.Write.{applied, keptBits}
 use Rattle.mmc3.proofs.Mmc3.bank_data.Statement.{statement}
 use Rattle.mmc3.proofs.Mmc3.bank_data.Tie as tie
 
 pub bank-data-spec : {M : Type 1} → statement M
-unfolding stored
+unfolding applied
 bank-data-spec =
     tie.close
     (tie.spec

@@ -1,0 +1,2 @@
+pub mod Mappers
+mod OneBit

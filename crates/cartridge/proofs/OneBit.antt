@@ -1,0 +1,86 @@
+-- Of the counts up to 255 those with one bit are the eight of the list: by computation; so the range may test the bits. Assumes nothing.
+use Prim.Native.Nat.{ℕ, zero, suc, _+_, _/_, _%_, _^_, _<_}
+use mathlib.Core.Path.{_≡_, refl, sym, ap, ap₂, _∙_}
+use mathlib.Core.Bool.{Bool, true, false, not, _&&_, _||_}
+use native.Mathlib.Nat.{pow-suc, not-suc-le-zero}
+use native.Mathlib.Omega.{arith}
+use borrow.Author.Tests.{ltb-true, eqb-true, eqb-false}
+use lib.Count.{ones, onesIn, ones-step}
+use lib.Dec.{ltb, leb, eqb}
+use Rattle.common.specs.declared.Mode.{Mode}
+use Rattle.common.specs.declared.Mode.the-variants.{House, Board}
+use Rattle.rules.proofs.Bools.{and-left, and-right}
+use Rattle.cartridge.specs.Answers.{mapperNumber}
+use Rattle.cartridge.specs.Load.{isPower, oddCounts, badPrg, needed, isHeaders, couldLoad}
+use Rattle.cartridge.specs.declared.Cartridge.{Cartridge}
+use Rattle.cartridge.specs.Steps.{hasOneBit, oddBits}
+
+bits : (k n : ℕ) → n < 2 ^ k → ones n ≡ onesIn k n
+unfolding ones onesIn
+bits zero n l = let z : n ≡ 0 = omega arith in rw z refl
+bits (suc k) n l = ones-step n ∙ ap (λ (m : ℕ). n % 2 + m) (bits k (n / 2) (omega (arith, pow-suc 2 k)))
+
+-- a test at every number below n
+abbrev upTo : (ℕ → Bool) → ℕ → Bool
+upTo f zero = true
+upTo f (suc n) = f n && upTo f n
+
+at : (f : ℕ → Bool) (n k : ℕ) → k < n → upTo f n ≡ true → f k ≡ true
+at f zero k h e = absurd (not-suc-le-zero h)
+at f (suc n) k h e = go (λ (l : k < n). at f n k l (and-right (f n) (upTo f n) e)) (eqb k n) refl
+  where
+    go : (k < n → f k ≡ true) → (t : Bool) → eqb k n ≡ t → f k ≡ true
+    go below true q = rw (eqb-true k n q) (and-left (f n) (upTo f n) e)
+    go below false q = below (let z = eqb-false k n q in omega arith)
+
+abbrev alike : Bool → Bool → Bool
+alike true y = y
+alike false true = false
+alike false false = true
+
+alike-is : (x y : Bool) → alike x y ≡ true → x ≡ y
+alike-is true true e = refl
+alike-is true false e = sym e
+alike-is false true e = e
+alike-is false false e = refl
+
+computed : upTo (λ (n : ℕ). alike (eqb (onesIn 8 n) 1) (isPower n)) 256 ≡ true
+unfolding onesIn isPower
+computed = refl
+
+one-of-eight : (n : ℕ) → n < 256 → hasOneBit n ≡ isPower n
+unfolding hasOneBit
+one-of-eight n l =
+    ap (λ (m : ℕ). eqb m 1) (bits 8 n l)
+    ∙ alike-is (eqb (onesIn 8 n) 1) (isPower n) (at (λ (k : ℕ). alike (eqb (onesIn 8 k) 1) (isPower k)) 256 n l computed)
+
+same-odd : (mode : Mode) (prg chr : ℕ) → prg < 256 → chr < 256 → oddBits mode prg chr ≡ oddCounts mode prg chr
+unfolding oddBits oddCounts
+same-odd House prg chr p c = refl
+same-odd Board prg chr p c =
+    ap₂ (λ (x y : Bool). not x || (not (eqb chr 0) && not y)) (one-of-eight prg p) (one-of-eight chr c)
+
+none : (x : Bool) → (x && false) ≡ false
+none true = refl
+none false = refl
+
+beside : (mode : Mode) (prg chr : ℕ) (x y z : Bool)
+    → ((x && not (oddBits mode prg chr)) && (ltb prg 256 && ltb chr 256 && y) && z) ≡ ((x && not (oddCounts mode prg chr)) && (ltb prg 256 && ltb chr 256 && y) && z)
+beside mode prg chr x y z = go (ltb prg 256) (ltb chr 256) refl refl
+  where
+    go : (p c : Bool) → ltb prg 256 ≡ p → ltb chr 256 ≡ c
+        → ((x && not (oddBits mode prg chr)) && (ltb prg 256 && ltb chr 256 && y) && z) ≡ ((x && not (oddCounts mode prg chr)) && (ltb prg 256 && ltb chr 256 && y) && z)
+    go true true p c = rw (same-odd mode prg chr (ltb-true prg 256 p) (ltb-true chr 256 c)) refl
+    go true false p c = rw (p, c, none (x && not (oddBits mode prg chr)), none (x && not (oddCounts mode prg chr))) refl
+    go false c p e = rw (p, none (x && not (oddBits mode prg chr)), none (x && not (oddCounts mode prg chr))) refl
+
+-- beside the test that both are below 256, either test of the counts says the same
+pub by-bits : (c : Cartridge)
+    → ((not (badPrg (mapperNumber (c .mapper)) (c .prg)) && not (oddBits (c .mode) (c .prg) (c .chr)))
+    && (ltb (c .prg) 256 && ltb (c .chr) 256 && leb (needed (c .prg) (c .chr)) (c .length))
+    && isHeaders (c .mirroring))
+    ≡ couldLoad c
+unfolding couldLoad
+by-bits c =
+    beside (c .mode) (c .prg) (c .chr) (not (badPrg (mapperNumber (c .mapper)) (c .prg))) (leb (needed (c .prg) (c .chr)) (c .length))
+    (isHeaders (c .mirroring))

@@ -1,0 +1,144 @@
+//! What a state holds, as numbers.
+
+use std::ops::Index;
+
+use crate::ffi;
+use crate::refusal::{accepted, Refusal};
+
+/// The count of digits in a state.
+pub const DIGITS: usize = 40;
+
+/// The places of a state's digits, in the order of docs/ABI.md, which has the range of each.
+#[derive(Clone, Copy, Debug, PartialEq, Eq, Hash)]
+pub enum Digit {
+    /// The version of the state's layout: 1.
+    Version,
+    /// 0 NROM, 1 MMC1, 2 UxROM, 3 CNROM, 4 MMC3.
+    Mapper,
+    /// 0 house, 1 board.
+    Mode,
+    /// The header's NES 2.0 mark.
+    Nes2,
+    /// 0 horizontal, 1 vertical.
+    HeaderMirroring,
+    /// 0 horizontal, 1 vertical, 2 upper screen, 3 lower screen.
+    Mirroring,
+    /// 1: there are 8 KB of PRG RAM.
+    PrgRam,
+    /// The count of 16,384-byte PRG blocks.
+    PrgCount,
+    /// The count of 8,192-byte CHR blocks.
+    ChrCount,
+    /// The length of the image that was loaded.
+    ImageLength,
+    /// UxROM's bank.
+    UxromBank,
+    /// CNROM's bank.
+    CnromBank,
+    /// Reserved: 0.
+    AxromBank,
+    /// Reserved: 0.
+    GxromPrgBank,
+    /// Reserved: 0.
+    GxromChrBank,
+    /// How many bits MMC1's serial register has.
+    Mmc1SerialCount,
+    /// These bits, from bit 4 down, the last one highest.
+    Mmc1SerialValue,
+    /// MMC1's PRG mode.
+    Mmc1PrgMode,
+    /// MMC1's CHR mode: 0 8 KB, 1 4 KB.
+    Mmc1ChrMode,
+    /// MMC1's CHR 0.
+    Mmc1Chr0,
+    /// MMC1's CHR 1.
+    Mmc1Chr1,
+    /// MMC1's PRG.
+    Mmc1Prg,
+    /// MMC3's R0.
+    Mmc3R0,
+    /// MMC3's R1.
+    Mmc3R1,
+    /// MMC3's R2.
+    Mmc3R2,
+    /// MMC3's R3.
+    Mmc3R3,
+    /// MMC3's R4.
+    Mmc3R4,
+    /// MMC3's R5.
+    Mmc3R5,
+    /// MMC3's R6.
+    Mmc3R6,
+    /// MMC3's R7.
+    Mmc3R7,
+    /// MMC3's latch.
+    Mmc3Latch,
+    /// MMC3's counter.
+    Mmc3Counter,
+    /// Which register MMC3's next data write goes to.
+    Mmc3Select,
+    /// MMC3's PRG mode.
+    Mmc3PrgMode,
+    /// MMC3's CHR mode.
+    Mmc3ChrMode,
+    /// Whether MMC3's IRQ is enabled.
+    Mmc3IrqEnabled,
+    /// MMC3's reload mark.
+    Mmc3Reload,
+    /// Reserved: 0.
+    Mmc3IrqLine,
+    /// Reserved: 1.
+    RamEnabled,
+    /// Reserved: 0.
+    RamWritesDenied,
+}
+
+/// The digits of a state.
+///
+/// ```
+/// use biekkarul::{Board, Digit, Digits, Mode, Refusal};
+///
+/// let mut image = vec![0x4E, 0x45, 0x53, 0x1A, 1, 1, 0x41, 0];
+/// image.resize(16 + 16_384 + 8_192, 0);
+/// let mut board = Board::load(image, Mode::Board)?;
+/// board.write(0xC000, 7)?;
+/// let digits = Digits::of(&board.state())?;
+/// assert_eq!(digits, board.digits());
+/// assert_eq!((digits[Digit::Mapper], digits[Digit::Mmc3Latch]), (4, 7));
+/// assert_eq!(Digits::of(&[0; 40]), Err(Refusal::StateOutOfRange));
+/// # Ok::<(), Refusal>(())
+/// ```
+#[derive(Clone, Copy, Debug, PartialEq, Eq, Hash)]
+pub struct Digits([u64; DIGITS]);
+
+impl Digits {
+    /// Reads a state; refused with 10 where no board could have it.
+    pub fn of(state: &[u8]) -> Result<Digits, Refusal> {
+        let mut digits = [0; DIGITS];
+        accepted(ffi::digits(state, &mut digits))?;
+        Ok(Digits(digits))
+    }
+
+    /// All of them, in their order.
+    pub const fn all(&self) -> &[u64; DIGITS] {
+        &self.0
+    }
+}
+
+impl Index<Digit> for Digits {
+    type Output = u64;
+
+    fn index(&self, digit: Digit) -> &u64 {
+        &self.0[digit as usize]
+    }
+}
+
+#[cfg(test)]
+mod tests {
+    use super::*;
+
+    #[test]
+    fn as_many_places_as_digits() {
+        assert_eq!(Digit::RamWritesDenied as usize + 1, DIGITS);
+    }
+}
