@@ -1,4 +1,4 @@
--- The five parts that the code tests are what makes words a board's: of the words that a mapper has nothing in, the digits are at their start just where the
+-- The six parts that the code tests are what makes words a board's: of the words that a mapper has nothing in, the digits are at their start just where the
 -- words are those of the start. Assumes nothing.
 use Prim.Native.Nat.{ℕ, zero, suc, _<_}
 use mathlib.Core.Path.{_≡_, refl, sym, ap, ap₂, subst, subst⁻¹, _∙_}

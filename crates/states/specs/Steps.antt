@@ -48,11 +48,11 @@ screensAreKept k c =
     cond (eqb (digit (flatDigits cartSizes c) 2) 0) (eqb (digit (flatDigits cartSizes c) 5) (digit (flatDigits cartSizes c) 4))
     (turnedFit k (eqb (digit (flatDigits cartSizes c) 5) (digit (flatDigits cartSizes c) 4)) (ltb (digit (flatDigits cartSizes c) 5) 2))
 
--- the first word has nothing beside
+-- the first word packed again is the same: version 1, this mapper, PRG RAM, nothing above the last digit
 unfoldable pub cartIsWhole : MapperType → ℕ → Bool
 cartIsWhole k c = eqb (cartWord (cartAs k (flatDigits cartSizes c) 0) (screensOf (flatDigits cartSizes c))) c
 
--- MMC1's digits in their ranges, and no others
+-- MMC1's digits in their ranges, and packed again the same word: no digit of another board
 unfoldable pub mmc1IsKept : ℕ → Bool
 mmc1IsKept b = mmc1.fits (mmc1Of (flatDigits banksSizes b)) && eqb (banksWord uxrom.start cnrom.start (mmc1Of (flatDigits banksSizes b))) b
 
@@ -63,7 +63,7 @@ banksAreKept k b =
     (cond (isMapper k Uxrom) (eqb (banksWord (uxromOf (flatDigits banksSizes b)) cnrom.start mmc1.unused) b)
     (cond (isMapper k Cnrom) (eqb (banksWord uxrom.start (cnromOf (flatDigits banksSizes b)) mmc1.unused) b) (eqb b 0)))
 
--- MMC3's in their ranges, and nothing beside
+-- MMC3's in their ranges, and packed again the same two words
 unfoldable pub mmc3Fits : mmc3-type.Mmc3 → ℕ → ℕ → Bool
 mmc3Fits m r q = mmc3.fits m && eqb (regsWord (m .regs)) r && eqb (irqWord m) q
 

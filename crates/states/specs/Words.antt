@@ -141,7 +141,7 @@ wordsOf b =
       irq = irqWord (b .registers .mmc3);
     }
 
--- and of all registers
+-- what the digits of words 2 to 4 say of all registers
 abbrev pub registersOf : List ℕ → List ℕ → List ℕ → Registers
 registersOf b r q = record { uxrom = uxromOf b; cnrom = cnromOf b; mmc1 = mmc1Of b; mmc3 = mmc3Of r q }
 
