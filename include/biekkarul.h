@@ -1,6 +1,6 @@
 /*
- * Proved NES cartridge boards: the functions of the static library libexports.a (x86-64 Linux).
- * docs/ABI.md has the layout of the state and the rules in full.
+ * Proved NES cartridge boards: the functions of the static library libbiekkarul.a (x86-64 Linux).
+ * docs/ABI.md has the layout of the state and the rules in full. For C99, C11 and C++.
  *
  * Every lent buffer is a pointer and a length. A pointer is not null, also where the length is 0, and is
  * good for that many bytes (of digits: for that many numbers, where a uint64_t may stand); a buffer that is
@@ -21,6 +21,9 @@
 extern "C" {
 #endif
 
+/* The version of the calls that this header declares; biekkarul_version() answers the library's. */
+#define BIEKKARUL_VERSION 1
+
 /* Lengths of the lent buffers, in bytes. */
 #define BIEKKARUL_STATE_LENGTH 40  /* a board */
 #define BIEKKARUL_RAM_LENGTH 8192  /* PRG RAM, and CHR RAM, whether the board uses them or not */
@@ -35,7 +38,8 @@ extern "C" {
 #define BIEKKARUL_HOUSE 0 /* as the emulator potatis answers, with a refusal where it panics */
 #define BIEKKARUL_BOARD 1 /* as the real board answers */
 
-/* What a write answers where it gives notice of a mirroring; 0 where it gives none. */
+/* What a write answers: no notice, or the letter of the mirroring that it gives notice of. */
+#define BIEKKARUL_NO_NOTICE 0
 #define BIEKKARUL_HORIZONTAL 0x48 /* 'H' */
 #define BIEKKARUL_VERTICAL 0x56   /* 'V' */
 #define BIEKKARUL_UPPER 0x55      /* 'U': the upper screen everywhere */
@@ -156,6 +160,66 @@ uint16_t biekkarul_clock(uint8_t *state, size_t state_length);
  */
 uint16_t biekkarul_digits(const uint8_t *state, size_t state_length,
                           uint64_t *digits, size_t digits_length);
+
+/*
+ * The library's version. Where it is not BIEKKARUL_VERSION, this header is not that library's.
+ */
+uint32_t biekkarul_version(void);
+
+/*
+ * The three functions below are this header's own: they are made of the calls above and of nothing else.
+ */
+
+/* The letter of a mirroring that stands as a digit in a state. */
+static inline uint16_t biekkarul_mirroring_letter(uint64_t digit) {
+    switch (digit) {
+    case 0: return BIEKKARUL_HORIZONTAL;
+    case 1: return BIEKKARUL_VERTICAL;
+    case 2: return BIEKKARUL_UPPER;
+    default: return BIEKKARUL_LOWER;
+    }
+}
+
+/*
+ * The mirroring that now holds. In board mode it stands in the state. In house mode the state has the header's
+ * for good, as in potatis, and the screens are turned as the last notice said: so the caller keeps that one,
+ * from the load or power cycle on, and says it here, or BIEKKARUL_NO_NOTICE where there has been none.
+ * Answers the letter. Refused with 10 when the state is out of range, or when last_notice is no answer of a write.
+ */
+static inline uint16_t biekkarul_mirroring(const uint8_t *state, size_t state_length, uint16_t last_notice) {
+    uint64_t digits[BIEKKARUL_DIGITS];
+    const uint16_t answer = biekkarul_digits(state, state_length, digits, BIEKKARUL_DIGITS);
+    if (BIEKKARUL_IS_REFUSED(answer)) return answer;
+    switch (last_notice) {
+    case BIEKKARUL_NO_NOTICE:
+    case BIEKKARUL_HORIZONTAL:
+    case BIEKKARUL_VERTICAL:
+    case BIEKKARUL_UPPER:
+    case BIEKKARUL_LOWER: break;
+    default: return 256 + BIEKKARUL_STATE_OUT_OF_RANGE;
+    }
+    if (digits[BIEKKARUL_DIGIT_MODE] == BIEKKARUL_HOUSE && last_notice != BIEKKARUL_NO_NOTICE) return last_notice;
+    return biekkarul_mirroring_letter(digits[BIEKKARUL_DIGIT_MIRRORING]);
+}
+
+/*
+ * The console is switched off and on: the registers become what a load in the same mode leaves and CHR RAM
+ * becomes zeros, while PRG RAM, which a battery keeps, is not lent and stays as it is. The last notice is
+ * BIEKKARUL_NO_NOTICE again. It takes 8 KB of stack: the load is lent a PRG RAM of its own, and clears that.
+ * Answers 0. Refusals, the first that applies: 10 (the state is out of range, or image_length is not the one
+ * loaded), then those of a load.
+ */
+static inline uint16_t biekkarul_power_cycle(uint8_t *state, size_t state_length,
+                                             const uint8_t *image, size_t image_length,
+                                             uint8_t *chr_ram, size_t chr_ram_length) {
+    uint8_t scratch[BIEKKARUL_RAM_LENGTH];
+    uint64_t digits[BIEKKARUL_DIGITS];
+    const uint16_t answer = biekkarul_digits(state, state_length, digits, BIEKKARUL_DIGITS);
+    if (BIEKKARUL_IS_REFUSED(answer)) return answer;
+    if (digits[BIEKKARUL_DIGIT_IMAGE_LENGTH] != image_length) return 256 + BIEKKARUL_STATE_OUT_OF_RANGE;
+    return biekkarul_load(image, image_length, (uint8_t)digits[BIEKKARUL_DIGIT_MODE], state, state_length,
+                          scratch, sizeof scratch, chr_ram, chr_ram_length);
+}
 
 #ifdef __cplusplus
 }

@@ -1,21 +1,31 @@
-//! Finds or makes the static library `libexports.a` and tells cargo to link it.
+//! Finds the static library and tells cargo to link it, as `libbiekkarul.a`:
 //!
-//! 1. `BIEKKARUL_LIB` names a folder: the library in it is taken as it is. A relative one counts from the
-//!    folder where cargo is started; empty is as unset.
-//! 2. The repository's `target/staticlib` has one that is newer than every source: it is taken.
-//! 3. `rt` is on the path: `rt staticlib exports` proves and makes it there, which may take minutes.
-//! 4. There is an older one and no `rt`: it is taken, with a warning.
+//! 1. `BIEKKARUL_LIB` names a folder: the library in it, be it called `libbiekkarul.a` or, as `rt` calls it,
+//!    `libexports.a`. A relative name counts from the folder where cargo is started; empty is as unset.
+//! 2. `BIEKKARUL_PROVE=1`: the library is made from the repository's sources by `rt staticlib exports`, which
+//!    proves them and takes minutes. It is made again where the sources, the toolchain or the library have other
+//!    contents than when it was made; file times say nothing.
+//! 3. Otherwise the one that the repository keeps in `lib/`. The gate makes it anew and compares.
 //!
-//! The library is copied to cargo's own folder, so that clearing the repository's `target/` does not
-//! break a build that cargo takes to be fresh.
+//! In each case a library of another version, or a file that is none, is refused here with a message. Where
+//! `DOCS_RS` is set, nothing is linked: pages need no library.
 
+#[path = "build/archive.rs"]
+mod archive;
+
+use std::collections::hash_map::DefaultHasher;
 use std::env;
-use std::fs;
+use std::fs::{self, OpenOptions};
+use std::hash::{Hash, Hasher};
+use std::io::{BufRead, BufReader, Read, Write};
 use std::path::{Path, PathBuf};
-use std::process::{exit, Command};
-use std::time::SystemTime;
+use std::process::{exit, Command, Stdio};
+use std::thread;
 
-const ARCHIVE: &str = "libexports.a";
+/// `BIEKKARUL_VERSION` of include/biekkarul.h, and `VERSION` in src/ffi.rs.
+const VERSION: u32 = 1;
+const ARCHIVE: &str = "libbiekkarul.a";
+const MADE: &str = "libexports.a";
 
 fn main() {
     if let Err(message) = link() {
@@ -26,18 +36,21 @@ fn main() {
 
 fn link() -> Result<(), String> {
     println!("cargo:rerun-if-changed=build.rs");
-    println!("cargo:rerun-if-env-changed=BIEKKARUL_LIB");
+    println!("cargo:rerun-if-changed=build");
+    for name in ["BIEKKARUL_LIB", "BIEKKARUL_PROVE", "DOCS_RS"] {
+        println!("cargo:rerun-if-env-changed={name}");
+    }
+    if env::var_os("DOCS_RS").is_some() {
+        return Ok(());
+    }
     check_target()?;
-    let named = env::var_os("BIEKKARUL_LIB").filter(|folder| !folder.is_empty());
-    let archive = match named {
-        Some(folder) => prebuilt(&full_path(folder.into())?)?,
-        None => from_repository()?,
-    };
+    let archive = chosen()?;
+    let bytes = contents(&archive)?;
+    check_version(&archive, &bytes)?;
     let out = PathBuf::from(variable("OUT_DIR")?);
-    fs::copy(&archive, out.join(ARCHIVE))
-        .map_err(|error| format!("{} cannot be copied: {error}", archive.display()))?;
+    write(&out.join(ARCHIVE), &bytes)?;
     println!("cargo:rustc-link-search=native={}", out.display());
-    println!("cargo:rustc-link-lib=static=exports");
+    println!("cargo:rustc-link-lib=static=biekkarul");
     Ok(())
 }
 
@@ -53,6 +66,42 @@ fn check_target() -> Result<(), String> {
     ))
 }
 
+fn check_version(archive: &Path, bytes: &[u8]) -> Result<(), String> {
+    match archive::version(bytes) {
+        Ok(VERSION) => Ok(()),
+        Ok(other) => Err(format!(
+            "'{}' is of version {other}, but this wrapper is for version {VERSION}",
+            archive.display()
+        )),
+        Err(why) => Err(format!("'{}' {why}", archive.display())),
+    }
+}
+
+fn chosen() -> Result<PathBuf, String> {
+    let named = env::var_os("BIEKKARUL_LIB").filter(|folder| !folder.is_empty());
+    match (named, is_to_be_proved()?) {
+        (Some(_), true) => Err(
+            "BIEKKARUL_LIB names a library, and BIEKKARUL_PROVE=1 asks for one to be made: set one of them"
+                .to_string(),
+        ),
+        (Some(folder), false) => named_library(&full_path(folder.into())?),
+        (None, true) => proved_library(&root()?),
+        (None, false) => kept_library(&root()?),
+    }
+}
+
+fn is_to_be_proved() -> Result<bool, String> {
+    let said = env::var_os("BIEKKARUL_PROVE").unwrap_or_default();
+    match said.to_str() {
+        Some("" | "0") => Ok(false),
+        Some("1") => Ok(true),
+        _ => Err(format!(
+            "BIEKKARUL_PROVE is '{}': it may be 1, to prove and make the library, or 0",
+            said.to_string_lossy()
+        )),
+    }
+}
+
 /// Cargo runs this in the crate's folder; `PWD` still names the one where cargo was started.
 fn full_path(folder: PathBuf) -> Result<PathBuf, String> {
     if folder.is_absolute() {
@@ -62,87 +111,170 @@ fn full_path(folder: PathBuf) -> Result<PathBuf, String> {
     Ok(PathBuf::from(variable("PWD")?).join(folder))
 }
 
-fn prebuilt(folder: &Path) -> Result<PathBuf, String> {
-    let archive = folder.join(ARCHIVE);
+/// Looked at in each build: a library that was copied there may have any time.
+fn named_library(folder: &Path) -> Result<PathBuf, String> {
+    run_each_time();
+    let candidates = [folder.join(ARCHIVE), folder.join(MADE)];
+    let found = candidates.into_iter().find(|archive| archive.is_file());
+    found.ok_or_else(|| {
+        let fault = if folder.is_file() {
+            "is a file: name the folder that it is in"
+        } else if folder.is_dir() {
+            "is a folder that has neither libbiekkarul.a nor libexports.a"
+        } else {
+            "is not there"
+        };
+        format!("BIEKKARUL_LIB names '{}', which {fault}", folder.display())
+    })
+}
+
+/// The repository that this crate stands in.
+fn root() -> Result<PathBuf, String> {
+    let crate_folder = PathBuf::from(variable("CARGO_MANIFEST_DIR")?);
+    let root = crate_folder.parent();
+    root.map(Path::to_path_buf)
+        .ok_or_else(|| "the crate stands in no repository".to_string())
+}
+
+/// Cargo goes by file times, so it is told to run this script at each build, by a file that never is there.
+fn run_each_time() {
+    println!("cargo:rerun-if-changed=build/runs-each-time");
+}
+
+/// A file of the repository, which cargo watches as any source.
+fn kept_library(root: &Path) -> Result<PathBuf, String> {
+    let archive = root.join("lib").join("x86_64-linux").join(ARCHIVE);
     println!("cargo:rerun-if-changed={}", archive.display());
     if archive.is_file() {
         return Ok(archive);
     }
     Err(format!(
-        "BIEKKARUL_LIB names the folder '{}', which has no {ARCHIVE}",
-        folder.display()
-    ))
-}
-
-fn from_repository() -> Result<PathBuf, String> {
-    let crate_folder = PathBuf::from(variable("CARGO_MANIFEST_DIR")?);
-    let root = crate_folder
-        .parent()
-        .ok_or("the crate stands in no repository")?;
-    let archive = root.join("target").join("staticlib").join(ARCHIVE);
-    let sources = [root.join("crates"), root.join("crates.txt")];
-    for source in &sources {
-        println!("cargo:rerun-if-changed={}", source.display());
-    }
-    let fresh = changed(&archive) >= sources.iter().filter_map(|path| changed(path)).max();
-    if !fresh || !archive.is_file() {
-        remake(root, &archive)?;
-    }
-    Ok(archive)
-}
-
-fn remake(root: &Path, archive: &Path) -> Result<(), String> {
-    if on_path("rt") {
-        return make(root, archive);
-    }
-    // Either of these may be mended later. Where `rt` is there, the sources alone decide.
-    println!("cargo:rerun-if-env-changed=PATH");
-    println!("cargo:rerun-if-changed={}", archive.display());
-    if archive.is_file() {
-        println!(
-            "cargo:warning={ARCHIVE} is older than its sources, and rt is not on the PATH to make it"
-        );
-        return Ok(());
-    }
-    Err(format!(
-        "no {ARCHIVE}: the Rattle toolchain (rt) is not on the PATH to make it, BIEKKARUL_LIB names no \
-         folder that has it, and '{}' is not there",
+        "'{}' is not there: BIEKKARUL_LIB may name the folder that the library is in, and BIEKKARUL_PROVE=1 \
+         makes it from the sources",
         archive.display()
     ))
 }
 
-/// When a file, or anything in a folder, was last changed.
-fn changed(path: &Path) -> Option<SystemTime> {
-    let own = fs::metadata(path).and_then(|data| data.modified()).ok();
-    let within = fs::read_dir(path).into_iter().flatten().flatten();
-    within
-        .filter_map(|entry| changed(&entry.path()))
-        .chain(own)
-        .max()
+/// Made anew where the sources, the toolchain or the library's bytes are not those of the stamp.
+fn proved_library(root: &Path) -> Result<PathBuf, String> {
+    run_each_time();
+    let folder = root.join("target").join("staticlib");
+    let archive = folder.join(MADE);
+    let stamp = folder.join("wrapper.stamp");
+    let sources = digest_of_sources(root)?;
+    let fresh = fs::read(&archive).map_or(false, |library| {
+        fs::read_to_string(&stamp).ok() == Some(stamp_of(sources, &library))
+    });
+    if !fresh {
+        make(root, &archive)?;
+        write(&stamp, stamp_of(sources, &contents(&archive)?).as_bytes())?;
+    }
+    Ok(archive)
+}
+
+/// Which library was made of what.
+fn stamp_of(sources: u64, library: &[u8]) -> String {
+    format!("{sources:016x} {:016x}\n", digest(&library))
+}
+
+/// Of the toolchain's identity and of every source: its place and its contents.
+fn digest_of_sources(root: &Path) -> Result<u64, String> {
+    let mut files = vec![root.join("crates.txt")];
+    files_below(&root.join("crates"), &mut files)?;
+    files.sort();
+    let mut hasher = DefaultHasher::new();
+    toolchain()?.hash(&mut hasher);
+    for file in files {
+        file.strip_prefix(root).unwrap_or(&file).hash(&mut hasher);
+        contents(&file)?.hash(&mut hasher);
+    }
+    Ok(hasher.finish())
+}
+
+fn files_below(folder: &Path, files: &mut Vec<PathBuf>) -> Result<(), String> {
+    let entries = fs::read_dir(folder)
+        .map_err(|error| format!("'{}' cannot be read: {error}", folder.display()))?;
+    for entry in entries.flatten() {
+        let path = entry.path();
+        if path.is_dir() {
+            files_below(&path, files)?;
+        } else {
+            files.push(path);
+        }
+    }
+    Ok(())
+}
+
+fn toolchain() -> Result<Vec<u8>, String> {
+    let said = Command::new("rt").arg("version").output();
+    said.map(|said| said.stdout).map_err(|error| {
+        format!("BIEKKARUL_PROVE=1 needs the Rattle toolchain, but rt cannot be started: {error}")
+    })
 }
 
 fn make(root: &Path, archive: &Path) -> Result<(), String> {
-    let run = Command::new("rt")
+    let mut run = Command::new("rt")
         .args(["staticlib", "exports"])
         .current_dir(root)
-        .output()
+        .stdout(Stdio::piped())
+        .stderr(Stdio::piped())
+        .spawn()
         .map_err(|error| format!("rt cannot be started: {error}"))?;
-    if run.status.success() && archive.is_file() {
+    show("proving the library from its sources, which takes minutes; a line for each crate:");
+    let errors = run
+        .stderr
+        .take()
+        .map(|stream| thread::spawn(|| followed(stream)));
+    let mut said = run.stdout.take().map(followed).unwrap_or_default();
+    said += &errors
+        .and_then(|errors| errors.join().ok())
+        .unwrap_or_default();
+    let status = run.wait().map_err(|error| format!("rt is lost: {error}"))?;
+    if status.success() && archive.is_file() {
         return Ok(());
     }
     Err(format!(
-        "'rt staticlib exports' made no '{}' ({}) and said:\n{}{}",
-        archive.display(),
-        run.status,
-        String::from_utf8_lossy(&run.stdout),
-        String::from_utf8_lossy(&run.stderr)
+        "'rt staticlib exports' made no '{}' ({status}) and said:\n{said}",
+        archive.display()
     ))
 }
 
-fn on_path(program: &str) -> bool {
-    env::var_os("PATH").map_or(false, |path| {
-        env::split_paths(&path).any(|folder| folder.join(program).is_file())
-    })
+/// All that a stream says. The lines of `rt` itself, one for each crate, are shown as they come.
+fn followed(stream: impl Read) -> String {
+    let mut said = String::new();
+    for line in BufReader::new(stream).split(b'\n').map_while(Result::ok) {
+        let line = String::from_utf8_lossy(&line);
+        if let Some(news) = line.strip_prefix("rt: ") {
+            show(news);
+        }
+        said += &line;
+        said.push('\n');
+    }
+    said
+}
+
+/// The start of a line, on the terminal: cargo shows nothing of a build script while it runs, and this one may take
+/// minutes. Where there is no terminal, nobody waits at one.
+fn show(line: &str) {
+    if let Ok(mut terminal) = OpenOptions::new().write(true).open("/dev/tty") {
+        let start: String = line.chars().take(100).collect();
+        let _ = writeln!(terminal, "\r\x1B[K    biekkarul: {start}");
+    }
+}
+
+fn contents(file: &Path) -> Result<Vec<u8>, String> {
+    fs::read(file).map_err(|error| format!("'{}' cannot be read: {error}", file.display()))
+}
+
+fn write(file: &Path, bytes: &[u8]) -> Result<(), String> {
+    fs::write(file, bytes)
+        .map_err(|error| format!("'{}' cannot be written: {error}", file.display()))
+}
+
+fn digest(value: &impl Hash) -> u64 {
+    let mut hasher = DefaultHasher::new();
+    value.hash(&mut hasher);
+    hasher.finish()
 }
 
 fn variable(name: &str) -> Result<String, String> {

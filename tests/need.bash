@@ -35,16 +35,34 @@ need_c() {
 
 need_cargo() { need "cargo" cargo command -v cargo && need_c; }
 
-# Whether this library is there and no source is newer.
+# Whether this file is there and no source is newer. For what a proof leaves in target/; the library goes by contents.
 is_fresh() { [ -f "$1" ] && [ -z "$(find crates crates.txt -newer "$1" -print -quit)" ]; }
 
+# library_in FOLDER: the static library there: libbiekkarul.a, as it is kept, or libexports.a, as rt calls it.
+library_in() {
+  local name
+  for name in libbiekkarul.a libexports.a; do
+    [ ! -f "$1/$name" ] || { echo "$1/$name"; return; }
+  done
+  echo "$1 has neither libbiekkarul.a nor libexports.a" >&2
+  return 1
+}
+
+# stamp_of LIBRARY: one line that says by which toolchain, from which sources and as which bytes a library was made.
+stamp_of() {
+  local sources
+  sources=$(find crates crates.txt -type f -print0 | LC_ALL=C sort -z | xargs -0 sha256sum | sha256sum) || return
+  echo "$(rt version) ${sources%% *} $(sha256sum <"$1")"
+}
+
 # The folder of the static library: the one that BIEKKARUL_LIB names, taken as it is; else target/staticlib, where the
-# library is made if it is missing or older than a source. Called from the repository's root.
+# library is made unless it is there and was made from these very sources. Called from the repository's root.
 library_folder() {
   local folder=${BIEKKARUL_LIB:-$PWD/target/staticlib}
-  if [ -z "${BIEKKARUL_LIB:-}" ] && ! is_fresh "$folder/libexports.a"; then
-    rt staticlib exports >&2 || { echo "rt staticlib exports does not make the library" >&2; return 1; }
+  local library=$folder/libexports.a stamp=$folder/tests.stamp
+  if [ -z "${BIEKKARUL_LIB:-}" ] && ! { [ -f "$library" ] && [ "$(cat "$stamp" 2>/dev/null)" = "$(stamp_of "$library")" ]; }; then
+    rt staticlib exports >&2 && stamp_of "$library" >"$stamp" ||
+      { echo "rt staticlib exports does not make the library" >&2; return 1; }
   fi
-  [ -f "$folder/libexports.a" ] || { echo "$folder has no libexports.a" >&2; return 1; }
-  echo "$folder"
+  library_in "$folder" >/dev/null && echo "$folder"
 }

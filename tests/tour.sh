@@ -1,5 +1,5 @@
 #!/usr/bin/env bash
-# The pages are true of the tree. Of README.md and docs/*.md: every relative link leads to a file. Of docs/TOUR.md also: every
+# The pages are true of the tree. Of README.md, CHANGELOG.md and the pages in docs/: every relative link leads to a file. Of docs/TOUR.md also: every
 # path in backticks is there, every crate that a command names is in crates.txt, every quotation stands in its file word for
 # word, and every command that it shows with an answer gives that answer. Runs after `rt ci`, which leaves target/bin/tracerun.
 set -uo pipefail
@@ -10,7 +10,7 @@ links=0 paths=0 crates=0 quotes=0 answers=0 lost=0
 fail() { echo "tour: $1"; lost=$((lost + 1)); }
 
 # ---- links: [text](target), pictures included; what follows a # is a heading
-for page in README.md docs/*.md; do
+for page in README.md CHANGELOG.md docs/*.md docs/changes/*.md; do
   while IFS= read -r target; do
     case $target in http://* | https://* | '#'*) continue ;; esac
     links=$((links + 1))

@@ -171,5 +171,16 @@ malformed "a clock with a value" < <(put $((events + 11)) 01)
 malformed "1,025 events" < <(trace 00 "$dir/nrom" $(for ((i = 0; i < 1025; i++)); do C; done))
 malformed "a malformed event after an image that no load takes" < <(trace 00 "$dir/none" 03000000)
 
+# What cannot be written is told on standard error: the program has no status to set.
+if [ -e /dev/full ]; then
+  message=$("$program" <"$dir/good" 2>&1 >/dev/full)
+  if [ "$message" = "tracerun: the text cannot be written" ]; then
+    held=$((held + 1))
+  else
+    echo "a full disk: it said '$message'"
+    failed=$((failed + 1))
+  fi
+fi
+
 echo "tests/tracerun.sh: $held traces as document 01 says, $failed not"
 [ "$failed" -eq 0 ]

@@ -11,11 +11,12 @@ source trials/parts.bash || exit 2
 need_c || exit 1
 need objcopy binutils command -v objcopy || exit 1
 folder=$(library_folder) || exit 1
+library=$(library_in "$folder") || exit 1
 is_fresh target/obj/tracerun.o || rt check tracerun >/dev/null 2>&1 || { echo "rt check tracerun does not make the program"; exit 1; }
 work=$(mktemp -d)
 trap 'rm -rf "$work"' EXIT
 
-shipped_beside "$folder/libexports.a" "$work/beside.a" && tracerun_within target/obj/tracerun.o "$work/tracerun.o" || exit 1
+shipped_beside "$library" "$work/beside.a" && tracerun_within target/obj/tracerun.o "$work/tracerun.o" || exit 1
 mkdir "$work/calls" "$work/traces" && seeds "$work/calls" "$work/traces" || exit 1
 
 built() { # built NAME SOURCE WORDS..
@@ -24,7 +25,7 @@ built() { # built NAME SOURCE WORDS..
   gcc -O1 -std=c11 -Wall -Wextra -Werror -Iinclude -o "$work/$name" "$source" trials/plain.c "$@" ||
     { echo "$source does not build"; exit 1; }
 }
-built calls-trial trials/calls.c "$folder/libexports.a" "$work/beside.a"
+built calls-trial trials/calls.c "$library" "$work/beside.a"
 built traces-trial trials/traces.c "$work/tracerun.o"
 
 for name in calls traces; do
@@ -35,7 +36,7 @@ done
 mkdir "$work/fault" && cp trials/calls.c trials/lent.h "$work/fault" || exit 1
 found=0
 while fault; do
-  built faulty "$work/fault/calls.c" "$folder/libexports.a" "$work/beside.a"
+  built faulty "$work/fault/calls.c" "$library" "$work/beside.a"
   # within brackets, so that the shell's word of its end goes to the log too
   if ("$work/faulty" 20000 "$work/calls"/*; exit) >"$work/log" 2>&1 || ! grep -q '^broken at ' "$work/log"; then
     echo "not found: $old => $new"

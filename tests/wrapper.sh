@@ -6,7 +6,12 @@ source "$(dirname "${BASH_SOURCE[0]}")/need.bash" || exit 2
 cd "$(dirname "${BASH_SOURCE[0]}")/.." || exit 2
 
 need_cargo || exit 1
-folder=$(library_folder) || exit 1
+need ar binutils command -v ar && need script bsdutils command -v script || exit 1
+# The library of library_folder: in the gate the one that it made.
+BIEKKARUL_LIB=$(library_folder) || exit 1
+library=$(library_in "$BIEKKARUL_LIB") || exit 1
+export BIEKKARUL_LIB
+unset BIEKKARUL_PROVE DOCS_RS
 work=$(mktemp -d)
 trap 'rm -rf "$work"' EXIT
 export RUSTFLAGS="-D warnings" RUSTDOCFLAGS="-D warnings"
@@ -27,9 +32,9 @@ step() { # step NAME COMMAND..: its output is shown only where it fails
   fi
 }
 
-layout() { ! command -v rustfmt >/dev/null || cargo fmt --manifest-path "$manifest" --check; }
+layout() { cargo fmt --manifest-path "$manifest" --check; }
 
-only_ffi_is_unsafe() { [ "$(grep -lw unsafe -r rust/src rust/examples)" = rust/src/ffi.rs ]; }
+only_ffi_is_unsafe() { [ "$(grep -lw unsafe -r rust/src rust/examples rust/build rust/build.rs)" = rust/src/ffi.rs ]; }
 
 replay() { cargo run --quiet --offline --manifest-path "$manifest" --example replay -- "$@"; }
 
@@ -46,76 +51,169 @@ refuses() {
   [ "$got" -eq "$status" ] && [ "$(cat "$work/out")" = "$text" ] && grep -qF -- "$message" "$work/err"
 }
 
-# The program tracerun, where it has been built, prints the same text.
-as_tracerun() { diff <(target/bin/tracerun <"$1") <(replay "$1" 2>/dev/null); }
+plays_standard_input() { replay - <"$sample.trace" | diff - "$sample.txt"; }
 
-# A build that takes the library from the folder, in a folder of its own.
-build_with() {
-  BIEKKARUL_LIB=$1 cargo build --offline --manifest-path "$manifest" --target-dir "$work/target"
+cannot_write() {
+  replay "$sample.trace" >/dev/full 2>"$work/err"
+  [ $? -eq 2 ] && grep -qF "cannot be written" "$work/err"
 }
 
-# The same with a relative name, which counts from the folder where cargo is started.
+example() { # example NAME ARGUMENT..
+  local name=$1
+  shift
+  cargo run --quiet --offline --manifest-path "$manifest" --example "$name" -- "$@"
+}
+
+# says STATUS LINE NAME ARGUMENT..: an example's status, and a line of what it says on either output
+says() {
+  local status=$1 line=$2
+  shift 2
+  example "$@" >"$work/out" 2>&1
+  local got=$?
+  echo "status $got"
+  cat "$work/out"
+  [ "$got" -eq "$status" ] && grep -qxF -- "$line" "$work/out"
+}
+
+image() { # image PRG CHR BYTE6 LENGTH: zeros behind a header
+  printf "NES\\x1a\\x$1\\x$2\\x$3"
+  head -c $(($4 - 7)) /dev/zero
+}
+
+# inspected MODE VERDICT STATUS PRG CHR BYTE6 LENGTH: the verdict in that mode on such an image
+inspected() {
+  image "${@:4}" >"$work/game.nes"
+  says "$3" "$1 mode: $2" inspect "$work/game.nes"
+}
+
+# A complaint about each of the 64 runs, of which some are about an answer
+finds_every_fault() {
+  says 1 "shop: run 1: event 2048 (read BB4E) was answered 'R 9C' and is now answered 'R 44'" shop --fault &&
+    [ "$(grep -c '^shop: run ' "$work/out")" -eq 64 ]
+}
+
+without_std() { cargo "$1" --offline --manifest-path "$manifest" --no-default-features "${@:2}"; }
+
+# The program tracerun, which rt check tracerun builds, prints the same text.
+as_tracerun() { diff <(target/bin/tracerun <"$1") <(replay "$1" 2>/dev/null); }
+
+# The build in a folder of its own, whose environment is said before it.
+build() { cargo build --offline --manifest-path "$manifest" --target-dir "$work/target" "$@"; }
+
+build_with_kept() { BIEKKARUL_LIB='' build; }
+
+# What that build has linked is this file.
+links() { # links FILE COMMAND..
+  local file=$1
+  shift
+  "$@" && cmp "$file" "$work"/target/debug/build/biekkarul-*/out/libbiekkarul.a
+}
+
+# With a relative name, which counts from the folder where cargo is started.
 build_with_relative() {
   local here=$PWD
-  (cd "$folder/.." && BIEKKARUL_LIB=${folder##*/} cargo build --offline --manifest-path "$here/$manifest" \
+  (cd "$BIEKKARUL_LIB/.." && BIEKKARUL_LIB=${BIEKKARUL_LIB##*/} cargo build --offline --manifest-path "$here/$manifest" \
     --target-dir "$work/target")
 }
 
-build_without() {
-  ! build_with "$work" 2>"$work/err"
+# fails_with MESSAGE COMMAND..: it fails, and says this.
+fails_with() {
+  local message=$1
+  shift
+  if "$@" 2>"$work/err"; then
+    echo "it does not fail"
+    return 1
+  fi
   cat "$work/err"
-  grep -qF "which has no libexports.a" "$work/err"
+  grep -qF -- "$message" "$work/err"
 }
 
-# The build script in a repository of its own, with a stand-in for rt that notes each run.
+refuses_library() { fails_with "$1" env BIEKKARUL_LIB="$2" "${@:3}" cargo build --offline --manifest-path "$manifest" --target-dir "$work/target"; }
+
+# Libraries that do not fit, each in a folder of its own.
+archive_of() { # archive_of NAME C-SOURCE
+  mkdir -p "$work/$1"
+  gcc -O1 -fcf-protection=none -x c -c -o "$work/$1/object.o" - <<<"$2" && ar rc "$work/$1/libbiekkarul.a" "$work/$1/object.o"
+}
+make_misfits() {
+  mkdir -p "$work"/{without,empty_archive,empty_file,text,cut,no_code} &&
+    printf '!<arch>\n' >"$work/empty_archive/libbiekkarul.a" &&
+    : >"$work/empty_file/libbiekkarul.a" &&
+    cp README.md "$work/text/libbiekkarul.a" &&
+    head -c 9000 "$library" >"$work/cut/libbiekkarul.a" &&
+    cp README.md "$work/no_code/text.o" && ar rc "$work/no_code/libbiekkarul.a" "$work/no_code/text.o" &&
+    archive_of newer 'unsigned biekkarul_version(void) { return 2; }' &&
+    archive_of older 'unsigned biekkarul_versions(void) { return 1; }' &&
+    archive_of computed 'unsigned biekkarul_version(void) { static volatile unsigned version = 1; return version; }'
+}
+
+# The crate in a repository of its own, with a stand-in for rt that notes each run.
 repository=$work/repository
 make_repository() {
-  mkdir -p "$repository/crates" "$repository/rust" "$work/bin"
+  mkdir -p "$repository/crates" "$repository/rust" "$repository/lib/x86_64-linux" "$work/bin"
   touch "$repository/crates.txt"
-  cp -r rust/src rust/build.rs rust/Cargo.toml rust/Cargo.lock "$repository/rust"
+  echo one >"$repository/crates/source"
+  cp "$library" "$repository/lib/x86_64-linux/libbiekkarul.a"
+  cp -r rust/src rust/build rust/build.rs rust/Cargo.toml rust/Cargo.lock "$repository/rust"
+  : >"$work/runs"
   cat >"$work/bin/rt" <<END
 #!/usr/bin/env bash
+[ "\$*" != version ] || { echo "a stand-in"; exit; }
 echo "\$*" >>"$work/runs"
-[ ! -e "$work/broken" ] && mkdir -p target/staticlib && cp "$folder/libexports.a" target/staticlib
+echo "rt: it says this" >&2
+[ ! -e "$work/broken" ] && mkdir -p target/staticlib && cp "$library" target/staticlib/libexports.a
 END
   chmod +x "$work/bin/rt"
 }
 
 build_there() { # an empty BIEKKARUL_LIB is as none
   BIEKKARUL_LIB='' PATH="$work/bin:$PATH" cargo build --offline \
-    --manifest-path "$repository/rust/Cargo.toml" --target-dir "$work/target" "$@"
+    --manifest-path "$repository/rust/Cargo.toml" --target-dir "$work/there" "$@"
 }
+prove_there() { BIEKKARUL_PROVE=1 build_there "$@"; }
 
-runs_rt() { # runs_rt COUNT ARGUMENT..: builds with the arguments; rt has then been run so often in all
+runs_rt() { # runs_rt COUNT COMMAND..: the command succeeds; rt has then made the library so often in all
   local count=$1
   shift
-  build_there "$@" && [ "$(grep -cxF "staticlib exports" "$work/runs")" -eq "$count" ]
+  "$@" && [ "$(grep -cxF "staticlib exports" "$work/runs")" -eq "$count" ]
 }
 
-tests_run_rt() { # tests_run_rt COUNT: the same for the library that the tests take
-  (cd "$repository" && BIEKKARUL_LIB='' PATH="$work/bin:$PATH" library_folder) &&
-    [ "$(grep -cxF "staticlib exports" "$work/runs")" -eq "$1" ]
+# On a terminal, a line of rt comes through while cargo builds. `script` runs its command by $SHELL; another
+# shell than bash would not pass the functions on.
+shows_rt() {
+  export -f prove_there build_there
+  export work repository
+  SHELL=$BASH script --quiet --return --command prove_there /dev/null </dev/null >"$work/terminal"
+  local got=$?
+  cat "$work/terminal"
+  [ "$got" -eq 0 ] && grep -q "biekkarul: it says this" "$work/terminal"
 }
 
-change_a_source() { # by more than the grain of a file's time
-  touch -d "1 minute ago" "$repository/target/staticlib/libexports.a"
-  touch "$repository/crates/changed"
+tests_make_it() { (cd "$repository" && BIEKKARUL_LIB='' PATH="$work/bin:$PATH" library_folder); }
+
+# Another content with an old time, and the same content with a new one.
+change_a_source() { echo "$RANDOM $RANDOM" >"$repository/crates/source" && touch -d "1 year ago" "$repository/crates/source"; }
+touch_a_source() { touch -d "1 minute" "$repository/crates/source"; }
+another_library() { echo another >"$repository/target/staticlib/libexports.a"; }
+
+docs_there() {
+  BIEKKARUL_LIB='' DOCS_RS=1 cargo doc --quiet --offline --manifest-path "$repository/rust/Cargo.toml" --target-dir "$work/docs"
 }
 
-says_that_rt_failed() {
-  touch "$work/broken"
-  change_a_source
-  ! build_there 2>"$work/err"
-  cat "$work/err"
-  grep -qF "'rt staticlib exports' made no" "$work/err"
-}
-
-step "layout (cargo fmt --check)" layout
+if command -v rustfmt >/dev/null; then
+  step "layout (cargo fmt --check)" layout
+else
+  echo "wrapper: there is no rustfmt here, so the layout is not looked at"
+fi
 step "unsafe stands in ffi.rs only" only_ffi_is_unsafe
 step "cargo build" cargo build --offline --manifest-path "$manifest" --all-targets
 step "cargo test" cargo test --offline --manifest-path "$manifest"
 step "cargo doc" cargo doc --quiet --offline --manifest-path "$manifest" --target-dir "$work/target"
+step "without std: cargo build" without_std build
+step "without std: cargo test" without_std test --lib --tests
 step "the sample trace" plays_the_sample
+step "the sample trace from standard input" plays_standard_input
+step "a text that cannot be written" cannot_write
 
 : >"$work/empty"
 head -c 1000 "$sample.trace" >"$work/truncated"
@@ -123,6 +221,9 @@ head -c -1 "$sample.trace" >"$work/one_short"
 { cat "$sample.trace"; printf '\0'; } >"$work/one_long"
 head -c 50000 /dev/zero >"$work/zeros"
 { head -c 6 "$sample.trace"; printf X; tail -c +8 "$sample.trace"; } >"$work/no_magic"
+image 01 00 00 16400 >"$work/game"
+step "replay --help" says 0 "usage: replay FILE" replay --help
+step "an option that is none" refuses 2 "" "there is no option '--mode'" --mode
 step "no argument" refuses 2 "" "usage: replay FILE"
 step "two arguments" refuses 2 "" "usage: replay FILE" "$sample.trace" "$sample.trace"
 step "a missing file" refuses 2 "" "cannot be read" "$work/missing"
@@ -135,26 +236,104 @@ step "a trace short of one byte" \
 step "a byte left over" refuses 1 "refused 15" "1 byte after the last event" "$work/one_long"
 step "a file that is no trace" refuses 1 "refused 15" "the version is 0" "$work/zeros"
 step "a refused load" refuses 1 "refused 3" "ImageNotInes" "$work/no_magic"
+step "an image in place of a trace" refuses 1 "refused 15" "is an iNES image" "$work/game"
 
-if [ -x target/bin/tracerun ]; then
-  for file in "$sample.trace" "$work"/{empty,truncated,one_short,one_long,zeros,no_magic}; do
-    step "tracerun's text of ${file##*/}" as_tracerun "$file"
-  done
-fi
+step "inspect --help" says 0 "usage: inspect FILE" inspect --help
+step "inspect: house mode takes it" inspected house accepted 0 01 00 00 16400
+step "inspect: board mode takes it" inspected board accepted 0 01 00 00 16400
+step "inspect: too few bytes" \
+  inspected house "refused 3 (ImageNotInes): 16399 bytes, but an image has at least 16400" 1 01 00 00 16399
+step "inspect: no magic" says 1 \
+  "house mode: refused 3 (ImageNotInes): bytes 0-3 are 00 00 00 00, but an iNES image begins with 4E 45 53 1A" \
+  inspect "$work/zeros"
+step "inspect: another mapper" inspected house \
+  "refused 4 (MapperNotTaken): mapper 5, but only 0 NROM, 1 MMC1, 2 UxROM, 3 CNROM and 4 MMC3 are taken" \
+  1 01 00 50 16400
+step "inspect: a trainer" inspected board \
+  "refused 5 (TrainerOrFourScreen): byte 6 is 04: bit 2 asks for a trainer, and neither is taken" \
+  1 01 00 04 16400
+step "inspect: four screens" inspected board \
+  "refused 5 (TrainerOrFourScreen): byte 6 is 49: bit 3 asks for four screens, and neither is taken" \
+  1 01 00 49 16400
+step "inspect: three PRG blocks on NROM" \
+  inspected house "refused 6 (PrgCountNotTaken): PRG count 3, but NROM has 1 or 2" 1 03 00 00 50000
+step "inspect: no PRG block on MMC1" \
+  inspected board "refused 6 (PrgCountNotTaken): PRG count 0, but MMC1 has at least 1" 1 00 01 10 50000
+step "inspect: an image shorter than its header says" inspected house \
+  "refused 7 (ImageTooShort): 40975 bytes, but PRG count 2 and CHR count 1 need 16 + 2 x 16384 + 1 x 8192 = 40976" \
+  1 02 01 00 40975
+step "inspect: counts that are no powers of two" inspected board \
+  "refused 8 (CountNoPowerOfTwo): PRG count 3 and CHR count 5, but board mode takes 1, 2, 4, 8, 16, 32, 64 or 128" \
+  0 03 05 20 90128
+step "inspect: the same in house mode" inspected house accepted 0 03 05 20 90128
+step "inspect: where the modes part" says 0 "the modes part at event 6 (write A000=00):" inspect "$sample.trace"
+step "inspect: a truncated trace" says 1 \
+  "'$work/truncated' begins as a trace and is malformed at byte 6: the image has 24592 bytes, but only 994 bytes are left" \
+  inspect "$work/truncated"
+{ head -c 16000 "$sample.snapshot"; printf X; tail -c +16002 "$sample.snapshot"; } >"$work/damaged"
+step "inspect: a snapshot" says 0 "'$sample.snapshot' is a snapshot in house mode" inspect "$sample.snapshot"
+step "inspect: a damaged snapshot" says 1 \
+  "'$work/damaged' begins as a snapshot, and the snapshot is damaged: its check sum does not fit its bytes" \
+  inspect "$work/damaged"
+step "inspect: a missing file" says 2 \
+  "inspect: '$work/missing' cannot be read: No such file or directory (os error 2)" inspect "$work/missing"
 
-step "a library named by BIEKKARUL_LIB" build_with "$folder"
-step "a relative folder" build_with_relative
-step "a folder without the library" build_without
+step "the shop's runs are taken up again" says 0 \
+  "64 snapshots of 16452 bytes, taken up again in new boards and in place: the same answers" shop
+step "the shop finds every board that was changed" finds_every_fault
+step "the shop knows no other option" says 2 "shop: usage: shop [--fault]" shop --faults
+
+step "target/bin/tracerun is there (rt check tracerun)" test -x target/bin/tracerun
+for file in "$sample.trace" "$work"/{empty,truncated,one_short,one_long,zeros,no_magic,game}; do
+  step "tracerun's text of ${file##*/}" as_tracerun "$file"
+done
+
+step "the crate carries the NOTICE" cmp NOTICE rust/NOTICE
+step "a library named by BIEKKARUL_LIB" links "$library" build
+step "a relative folder" links "$library" build_with_relative
+step "the library that the repository keeps" links lib/x86_64-linux/libbiekkarul.a build_with_kept
+
+make_misfits || { echo "wrapper: the libraries that do not fit cannot be made"; exit 1; }
+step "a folder without the library" refuses_library "has neither libbiekkarul.a nor libexports.a" "$work/without"
+step "a file" refuses_library "is a file" "$library"
+step "a folder that is not there" refuses_library "is not there" "$work/nowhere"
+step "an empty archive" refuses_library "is an empty archive" "$work/empty_archive"
+step "an empty file" refuses_library "is no archive" "$work/empty_file"
+step "a text" refuses_library "is no archive" "$work/text"
+step "an archive that is cut off" refuses_library "is an archive that is cut off" "$work/cut"
+step "an archive of a text" refuses_library "something else than machine code for x86-64" "$work/no_code"
+step "a library of another version" refuses_library "is of version 2, but this wrapper is for version 1" "$work/newer"
+step "a library that has no version" refuses_library "has no function biekkarul_version" "$work/older"
+step "a version that is no plain number" refuses_library "does not say its version as a plain number" "$work/computed"
+step "a library and a proof" refuses_library "set one of them" "$BIEKKARUL_LIB" BIEKKARUL_PROVE=1
+step "a proof that is neither 0 nor 1" refuses_library "BIEKKARUL_PROVE is 'yes'" '' BIEKKARUL_PROVE=yes
 
 make_repository
-step "rt makes the library" runs_rt 1
-step "a library newer than its sources is not made again" runs_rt 1 --release
+step "without BIEKKARUL_PROVE nothing is proved" runs_rt 0 build_there
+step "BIEKKARUL_PROVE=1 makes the library" runs_rt 1 prove_there
+step "it is not made again for another profile" runs_rt 1 prove_there --release
+touch_a_source
+step "nor for a source that is newer but the same" runs_rt 1 prove_there
 change_a_source
-step "a library older than its sources is made again" runs_rt 2
-step "the tests take a library newer than its sources" tests_run_rt 2
+step "it is made again for a source that is older but another" runs_rt 2 prove_there
+another_library
+step "it is made again where it is another than was made" runs_rt 3 prove_there
 change_a_source
-step "the tests make an older one again" tests_run_rt 3
-step "a failing rt" says_that_rt_failed
+step "what rt says is shown on a terminal" runs_rt 4 shows_rt
+step "the tests make it for themselves" runs_rt 5 tests_make_it
+touch_a_source
+step "the tests take it again from the same sources" runs_rt 5 tests_make_it
+change_a_source
+step "the tests make it again from others" runs_rt 6 tests_make_it
+another_library
+step "the tests make it again where it is another than was made" runs_rt 7 tests_make_it
+touch "$work/broken"
+change_a_source
+step "a failing rt" fails_with "'rt staticlib exports' made no" prove_there
+step "it is told what rt says" fails_with "rt: it says this" prove_there
+rm "$repository/lib/x86_64-linux/libbiekkarul.a"
+step "a repository without the library" fails_with "BIEKKARUL_PROVE=1 makes it from the sources" build_there
+step "the pages need no library" docs_there
 
 echo "wrapper: $passed steps passed, $failed failed"
 [ "$failed" -eq 0 ]

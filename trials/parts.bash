@@ -82,7 +82,7 @@ seeds() {
 # shipped_beside LIBRARY TO: the shipped library with the names that calls.c has for it.
 shipped_beside() {
   local name renamed=()
-  for name in header load read write clock digits; do renamed+=(--redefine-sym "biekkarul_$name=shipped_$name"); done
+  for name in header load read write clock digits version; do renamed+=(--redefine-sym "biekkarul_$name=shipped_$name"); done
   objcopy "${renamed[@]}" "$1" "$2"
 }
 

@@ -4,8 +4,8 @@
 //!     target/pictures/draw docs/pictures                        # from the repository's root
 //!     target/pictures/draw --check docs/pictures/crates.svg ..  # is each one well-formed?
 //!
-//! crates.svg is drawn from crates.txt, maps.svg from docs/pictures/maps.txt. The standard library is
-//! enough, and so is Rust 1.63. The same input gives the same bytes.
+//! crates.svg is drawn from crates.txt and goes on to the shop's server; maps.svg is drawn from
+//! docs/pictures/maps.txt. The standard library is enough, and so is Rust 1.63. The same input gives the same bytes.
 
 use std::env;
 use std::fs;
@@ -188,6 +188,8 @@ enum Kind {
     Program,
     /// Definitions and proofs, and no function.
     Theorems,
+    /// What stands on the exported library outside the proofs.
+    Caller,
 }
 
 struct Crate {
@@ -195,8 +197,27 @@ struct Crate {
     kind: Kind,
     /// Crates of this repository that it stands on, by their place in the file.
     on: Vec<usize>,
-    /// Libraries of the toolchain that it stands on.
-    outside: Vec<String>,
+    /// What is said under its name: the libraries of the toolchain that it stands on, or its folder.
+    under: String,
+}
+
+/// The way from the exported library to the shop: name, what is said under it, what it stands on.
+const CALLERS: [(&str, &str, &[&str]); 4] = [
+    ("libbiekkarul.a", "kept in lib/", &["exports"]),
+    ("biekkarul.h", "for C, in include/", &["libbiekkarul.a"]),
+    ("wrapper", "for Rust, in rust/", &["libbiekkarul.a"]),
+    ("the shop's server", "in Rust, or in C", &["wrapper", "biekkarul.h"]),
+];
+
+fn add_callers(crates: &mut Vec<Crate>) -> Result<(), String> {
+    for (name, under, below) in CALLERS {
+        let mut on = Vec::new();
+        for word in below {
+            on.push(crates.iter().position(|c| c.name == *word).ok_or(format!("there is no {word} to stand on"))?);
+        }
+        crates.push(Crate { name: name.to_string(), kind: Kind::Caller, on, under: under.to_string() });
+    }
+    Ok(())
 }
 
 fn kind_of(name: &str) -> Result<Kind, String> {
@@ -221,14 +242,15 @@ fn crates_of(text: &str) -> Result<Vec<Crate>, String> {
                 None if Path::new("crates").join(word).is_dir() => {
                     return Err(format!("crates.txt: {name} stands on {word}, which comes later"))
                 }
-                None => outside.push(word.to_string()),
+                None => outside.push(word),
             }
         }
         let name = name.trim().to_string();
         if crates.iter().any(|c| c.name == name) {
             return Err(format!("crates.txt has {name} twice"));
         }
-        crates.push(Crate { kind: kind_of(&name)?, name, on, outside });
+        let under = if outside.is_empty() { String::new() } else { format!("with {}", outside.join(", ")) };
+        crates.push(Crate { kind: kind_of(&name)?, name, on, under });
     }
     Ok(crates)
 }
@@ -259,15 +281,7 @@ const PITCH: i64 = 84;
 const GAP: i64 = 26;
 
 fn box_width(c: &Crate) -> i64 {
-    (room(&c.name, 15, true) + 28).max(room(&with_outside(c), 11, false) + 20).max(84)
-}
-
-fn with_outside(c: &Crate) -> String {
-    if c.outside.is_empty() {
-        String::new()
-    } else {
-        format!("with {}", c.outside.join(", "))
-    }
+    (room(&c.name, 15, true) + 28).max(room(&c.under, 11, false) + 20).max(84)
 }
 
 /// The crates by layers, each one above all that it stands on, with the arrows from layer to layer.
@@ -405,7 +419,8 @@ const EDGE: i64 = 30;
 const TOP: i64 = 76;
 
 fn draw_crates(text: &str) -> Result<String, String> {
-    let crates = crates_of(text)?;
+    let mut crates = crates_of(text)?;
+    add_callers(&mut crates)?;
     let direct = neighbours(&crates);
     let mut nodes = nodes_of(&crates, &direct);
     let rows = ordered(&nodes);
@@ -433,8 +448,8 @@ fn draw_crates(text: &str) -> Result<String, String> {
     for (c, node) in crates.iter().zip(&nodes) {
         draw_box(&mut svg, c, node, shift, y(node.layer));
     }
-    let height = crates_legend(&mut svg, width, y(0) + BOX + 34);
-    Ok(svg.finish(width, height, "The crates of the repository, drawn from crates.txt"))
+    let height = crates_legend(&mut svg, width, y(0) + BOX + 34)?;
+    Ok(svg.finish(width, height, "The crates of the repository, drawn from crates.txt, and who calls them"))
 }
 
 /// For each arrow down from a node, from left to right, the points that it passes and the node where it ends.
@@ -497,35 +512,40 @@ fn shade_of(kind: Kind) -> &'static Shade {
         Kind::Library => &BLUE,
         Kind::Program => &AMBER,
         Kind::Theorems => &GREEN,
+        Kind::Caller => &PLAIN,
     }
 }
 
 fn draw_box(svg: &mut Svg, c: &Crate, node: &Node, shift: i64, y: i64) {
     let x = node.x as i64 + shift;
     svg.area(x - node.width / 2, y, node.width, BOX, 6, shade_of(c.kind));
-    if c.outside.is_empty() {
+    if c.under.is_empty() {
         svg.text(x, y + 23, "middle", 15, true, INK, &c.name);
     } else {
         svg.text(x, y + 17, "middle", 15, true, INK, &c.name);
-        svg.text(x, y + 30, "middle", 11, false, FAINT, &with_outside(c));
+        svg.text(x, y + 30, "middle", 11, false, FAINT, &c.under);
     }
 }
 
 /// What the shades mean, below the crates; gives the height of the picture.
-fn crates_legend(svg: &mut Svg, width: i64, top: i64) -> i64 {
+fn crates_legend(svg: &mut Svg, width: i64, top: i64) -> Result<i64, String> {
     let entries = [
         (&BLUE, "a library"),
-        (&AMBER, "a program (with libraries of the toolchain)"),
+        (&AMBER, "a program, over the toolchain's libraries"),
         (&GREEN, "laws and proofs, no code"),
+        (&PLAIN, "callers, not in Rattle"),
     ];
     let total: i64 = entries.iter().map(|(_, text)| 24 + room(text, 12, false) + 26).sum::<i64>() - 26;
+    if total > width - 20 {
+        return Err(format!("what is said of the shades needs {total} of {width}"));
+    }
     let mut x = (width - total) / 2;
     for (shade, text) in entries {
         svg.area(x, top, 16, 16, 3, shade);
         svg.text(x + 24, top + 13, "start", 12, false, INK, text);
         x += 24 + room(text, 12, false) + 26;
     }
-    top + 16 + 26
+    Ok(top + 16 + 26)
 }
 
 // ---- the address maps
@@ -633,9 +653,18 @@ fn rows_of(w: &Window, starts: &[u32]) -> Vec<usize> {
     (0..starts.len()).filter(|&i| w.from <= starts[i] && starts[i] <= w.to).collect()
 }
 
+/// What stands under the addresses of a row: whose they are, where they are not the processor's.
+fn label_of(start: u32) -> Option<&'static str> {
+    if start < 0x2000 {
+        Some("picture unit")
+    } else {
+        None
+    }
+}
+
 /// How high each row is, so that every text has its room.
 fn heights_of(map: &Map, starts: &[u32]) -> Result<Vec<i64>, String> {
-    let mut heights = vec![LEAD + 2 * PAD; starts.len()];
+    let mut heights: Vec<i64> = starts.iter().map(|&start| label_of(start).map_or(1, |_| 2) * LEAD + 2 * PAD).collect();
     for rows_spanned in 1..=starts.len() {
         for w in &map.windows {
             let rows = rows_of(w, starts);
@@ -688,6 +717,8 @@ fn maps_legend(svg: &mut Svg, top: i64, width: i64) -> Result<i64, String> {
         "Bank rule, for a number marked *. House: as it is; a read of a bank that ends past the data is refused 11. Board: modulo the count of such banks.",
         "Notice rule. A write that sets the mirroring answers a notice where it differs: house, from the header's; board, from the current one.",
         "CHR is CHR RAM where the header's CHR count is 0, else CHR ROM. A PRG block has 16 KB.",
+        "0000-1FFF are addresses of the picture unit (PPU), 2000-FFFF of the processor. Banks are counted from bank 0; a byte is written as two digits, 00.",
+        "After a load every register holds 0 but for those that are named under a board; the screens stand as the header asks, and both RAMs hold 00.",
     ];
     for rule in rules {
         for line in wrapped(rule, SIZE, width - 2 * MARGIN)? {
@@ -720,7 +751,12 @@ fn draw_map(svg: &mut Svg, map: &Map, top: i64) -> Result<i64, String> {
     for (i, start) in starts.iter().enumerate() {
         let end = starts.get(i + 1).map_or(0xFFFF, |next| next - 1);
         let middle = (tops[i] + tops[i + 1]) / 2 + 4;
-        svg.text(MARGIN, middle, "start", SIZE, false, INK, &format!("{start:04X}-{end:04X}"));
+        let label = label_of(*start);
+        let up = label.map_or(0, |_| LEAD / 2);
+        svg.text(MARGIN, middle - up, "start", SIZE, false, INK, &format!("{start:04X}-{end:04X}"));
+        if let Some(label) = label {
+            svg.text(MARGIN, middle + LEAD - up, "start", SIZE, false, FAINT, label);
+        }
     }
     for w in &map.windows {
         let rows = rows_of(w, &starts);

@@ -1,4 +1,4 @@
-//! Plays a trace file and prints each answer, as the program `tracerun` does.
+//! Plays a trace and prints each answer, as the program `tracerun` does.
 //!
 //!     cargo run --offline --manifest-path rust/Cargo.toml --example replay -- FILE
 //!
@@ -6,14 +6,30 @@
 //! refused, which stands on standard output as `refused N` and in words on standard error; 2 no trace
 //! could be read, or the text could not be written.
 
-use std::env;
-use std::ffi::OsString;
-use std::fs::File;
-use std::io::{self, Read, Write};
-use std::path::Path;
+mod common;
+
+use std::ffi::OsStr;
 use std::process::ExitCode;
 
 use biekkarul::trace::{Trace, LONGEST};
+use common::{asked, contents, name, print, Asked};
+
+const USAGE: &str = "usage: replay FILE, where - is standard input";
+
+const HELP: &str = "\
+Plays a trace and prints a line for each answer, as the program tracerun does.
+
+usage: replay FILE
+       replay -         plays the trace on standard input
+       replay --help    shows this
+
+A trace holds an iNES image of at most 40976 bytes, a mode (house or board) and at most 1024 calls.
+
+status: 0  played; events that are refused are lines of the text, as '11 W !14'
+        1  the trace is malformed or its image is refused: 'refused N' on standard output, and why on
+           standard error
+        2  no trace could be read, or the text could not be written
+";
 
 /// What goes to standard output, and what is wrong with the trace, if anything is.
 struct Outcome {
@@ -35,47 +51,26 @@ fn complain(message: &str, status: u8) -> ExitCode {
 }
 
 fn run() -> Result<Option<String>, String> {
-    let file = argument()?;
-    let path = Path::new(&file);
-    let bytes = contents(path).map_err(|why| format!("'{}' {why}", path.display()))?;
+    match asked(USAGE)? {
+        Asked::Help => print(HELP).map(|()| None),
+        Asked::File(file) => play_file(&file),
+    }
+}
+
+fn play_file(file: &OsStr) -> Result<Option<String>, String> {
+    let name = name(file);
+    // A longer file is malformed.
+    let bytes = contents(file, LONGEST).map_err(|why| format!("{name} {why}"))?;
     let outcome = play(&bytes);
-    print(&outcome.text).map_err(|error| format!("the text cannot be written: {error}"))?;
-    Ok(outcome
-        .fault
-        .map(|fault| format!("'{}' {fault}", path.display())))
-}
-
-fn argument() -> Result<OsString, String> {
-    let mut arguments = env::args_os().skip(1);
-    match (arguments.next(), arguments.next()) {
-        (Some(file), None) => Ok(file),
-        (None, _) => Err("no file named; usage: replay FILE".to_string()),
-        _ => Err("more than one file named; usage: replay FILE".to_string()),
-    }
-}
-
-/// The file's bytes, up to one more than the longest trace has: a longer file is then malformed, and
-/// not read to its end.
-fn contents(path: &Path) -> Result<Vec<u8>, String> {
-    if path.is_dir() {
-        return Err("is a directory, not a trace file".to_string());
-    }
-    let mut bytes = Vec::new();
-    File::open(path)
-        .and_then(|file| file.take(LONGEST as u64 + 1).read_to_end(&mut bytes))
-        .map_err(|error| format!("cannot be read: {error}"))?;
-    Ok(bytes)
+    print(&outcome.text)?;
+    Ok(outcome.fault.map(|fault| format!("{name} {fault}")))
 }
 
 fn play(bytes: &[u8]) -> Outcome {
     let trace = match Trace::parse(bytes) {
         Ok(trace) => trace,
         Err(malformed) => {
-            let why = if bytes.is_empty() {
-                "is empty".to_string()
-            } else {
-                format!("is no trace: {malformed}")
-            };
+            let why = what_else(bytes).unwrap_or_else(|| format!("is no trace: {malformed}"));
             return refused(malformed.refusal().number(), why);
         }
     };
@@ -85,15 +80,24 @@ fn play(bytes: &[u8]) -> Outcome {
     }
 }
 
+/// What bytes are that are no trace, where that can be told.
+fn what_else(bytes: &[u8]) -> Option<String> {
+    if bytes.is_empty() {
+        return Some("is empty".to_string());
+    }
+    if bytes.starts_with(b"NES\x1A") {
+        return Some(
+            "is an iNES image, a game's header, program and tiles, and no trace: a trace holds such an \
+             image, a mode and the calls to be made on it; the example inspect looks at images"
+                .to_string(),
+        );
+    }
+    None
+}
+
 fn refused(number: u8, fault: String) -> Outcome {
     Outcome {
         text: format!("refused {number}\n"),
         fault: Some(fault),
     }
-}
-
-fn print(text: &str) -> io::Result<()> {
-    let mut out = io::stdout().lock();
-    out.write_all(text.as_bytes())?;
-    out.flush()
 }

@@ -1,79 +1,22 @@
 //! One cartridge board with all that it holds.
 
-use std::fmt;
+use alloc::boxed::Box;
+use alloc::vec::Vec;
+use core::fmt;
 
 use crate::digits::{Digit, Digits};
 use crate::ffi;
+use crate::mirroring::Mirroring;
+use crate::mode::Mode;
 use crate::refusal::{accepted, foreign, Refusal};
+use crate::registers::Registers;
+use crate::snapshot::{image_hash, Snapshot, SnapshotError};
 
 /// The length of PRG RAM and of CHR RAM, in bytes.
 pub const RAM_LENGTH: usize = 8_192;
 
 /// The length of a board's state, in bytes; docs/ABI.md has the layout.
 pub const STATE_LENGTH: usize = 40;
-
-/// What a title runs in for good.
-#[derive(Clone, Copy, Debug, PartialEq, Eq, Hash)]
-pub enum Mode {
-    /// As the emulator potatis answers, oddities included, with a refusal where it panics.
-    House,
-    /// As the real board answers.
-    Board,
-}
-
-impl Mode {
-    const fn number(self) -> u8 {
-        match self {
-            Mode::House => 0,
-            Mode::Board => 1,
-        }
-    }
-
-    const fn of_digit(digit: u64) -> Mode {
-        match digit {
-            0 => Mode::House,
-            _ => Mode::Board,
-        }
-    }
-}
-
-/// Which screens a cartridge shows where.
-#[derive(Clone, Copy, Debug, PartialEq, Eq, Hash)]
-pub enum Mirroring {
-    /// Horizontal mirroring.
-    Horizontal,
-    /// Vertical mirroring.
-    Vertical,
-    /// The upper screen everywhere.
-    SingleScreenUpper,
-    /// The lower screen everywhere.
-    SingleScreenLower,
-}
-
-impl Mirroring {
-    /// The letter that a trace prints: H, V, U (upper) or L (lower).
-    ///
-    /// ```
-    /// assert_eq!(biekkarul::Mirroring::SingleScreenUpper.letter(), 'U');
-    /// ```
-    pub const fn letter(self) -> char {
-        match self {
-            Mirroring::Horizontal => 'H',
-            Mirroring::Vertical => 'V',
-            Mirroring::SingleScreenUpper => 'U',
-            Mirroring::SingleScreenLower => 'L',
-        }
-    }
-
-    const fn of_digit(digit: u64) -> Mirroring {
-        match digit {
-            0 => Mirroring::Horizontal,
-            1 => Mirroring::Vertical,
-            2 => Mirroring::SingleScreenUpper,
-            _ => Mirroring::SingleScreenLower,
-        }
-    }
-}
 
 /// A cartridge board: the image, the registers, PRG RAM and CHR RAM.
 ///
@@ -98,29 +41,42 @@ impl Mirroring {
 ///
 /// Every call that is refused leaves the board and both RAMs as they were. A clone goes on from the same
 /// point. Boards on several threads do not meet: the library has no state of its own.
+///
+/// Two boards are equal when their images, registers, RAMs and screens are, however each holds its image:
+/// then the same calls get the same answers from both.
 #[derive(Clone)]
 pub struct Board<I = Vec<u8>> {
     image: I,
     state: [u8; STATE_LENGTH],
     prg_ram: Box<[u8; RAM_LENGTH]>,
     chr_ram: Box<[u8; RAM_LENGTH]>,
+    // Kept beside the state: in house mode that holds the header's mirroring only.
+    last_notice: Option<Mirroring>,
 }
 
 impl<I: AsRef<[u8]>> Board<I> {
     /// Loads an image, header included. Both RAMs start as zeros.
     ///
-    /// Refusals, the first that applies: 3, 4, 5, 6, 7, and in board mode 8. To keep an image that is
-    /// refused, lend it.
-    ///
     /// The bytes that `image` gives must not change while the board has it; `Vec<u8>`, `&[u8]`,
     /// `Box<[u8]>` and `Arc<[u8]>` hold to that by themselves. Bytes of another length are refused with
     /// 10 at each read and write.
+    ///
+    /// # Errors
+    ///
+    /// The first that applies of 3, 4, 5, 6, 7, and in board mode 8. To keep an image that is refused,
+    /// lend it.
+    ///
+    /// # Panics
+    ///
+    /// Where the linked library is of another version than the wrapper; the build refuses such a one, so
+    /// it was linked by other means.
     pub fn load(image: I, mode: Mode) -> Result<Self, Refusal> {
         let mut board = Board {
             image,
             state: [0; STATE_LENGTH],
             prg_ram: Box::new([0; RAM_LENGTH]),
             chr_ram: Box::new([0; RAM_LENGTH]),
+            last_notice: None,
         };
         accepted(ffi::load(
             board.image.as_ref(),
@@ -132,12 +88,17 @@ impl<I: AsRef<[u8]>> Board<I> {
         Ok(board)
     }
 
-    /// Takes up a board where [`state`](Board::state), [`prg_ram`](Board::prg_ram) and
-    /// [`chr_ram`](Board::chr_ram) were kept, with the image that it was loaded from.
+    /// Makes a board of the bytes that [`state`](Board::state), [`prg_ram`](Board::prg_ram) and
+    /// [`chr_ram`](Board::chr_ram) gave, with the image and in the mode that it was loaded with. A
+    /// [`Snapshot`] keeps all of these in one, and the last notice as well, which a house board's state
+    /// does not hold: here its [`screens`](Board::screens) are the header's.
     ///
-    /// Refusals, the first that applies: 9 for a RAM of another length; 10 for a state that no board could
-    /// have, also one of another length or version; those of [`load`](Board::load), as the image is loaded
-    /// again; 10 for a state of another image's cartridge. Bytes of PRG and CHR data are not compared.
+    /// # Errors
+    ///
+    /// The first that applies: 9 for a RAM of another length; 10 for a state that no board could have, also
+    /// one of another length or version; those of [`load`](Board::load), as the image is loaded again; 10
+    /// for a state of another image's cartridge or of the other mode. Bytes of PRG and CHR data are not
+    /// compared.
     ///
     /// ```
     /// use biekkarul::{Board, Mode, Refusal};
@@ -148,15 +109,18 @@ impl<I: AsRef<[u8]>> Board<I> {
     /// board.write(0x6000, 0x2A)?;
     ///
     /// let kept = (board.state(), *board.prg_ram(), *board.chr_ram());
-    /// let again = Board::restore(&image[..], &kept.0, &kept.1, &kept.2)?;
-    /// assert_eq!(again.read(0x6000), Ok(0x2A));
+    /// let again = Board::from_parts(&image[..], Mode::Board, &kept.0, &kept.1, &kept.2)?;
+    /// assert_eq!(again, board);
     ///
-    /// let wrong = Board::restore(&image[..], &[0xFF; 40], &kept.1, &kept.2);
+    /// let other_mode = Board::from_parts(&image[..], Mode::House, &kept.0, &kept.1, &kept.2);
+    /// assert_eq!(other_mode.unwrap_err(), Refusal::StateOutOfRange);
+    /// let wrong = Board::from_parts(&image[..], Mode::Board, &[0xFF; 40], &kept.1, &kept.2);
     /// assert_eq!(wrong.unwrap_err(), Refusal::StateOutOfRange);
     /// # Ok::<(), Refusal>(())
     /// ```
-    pub fn restore(
+    pub fn from_parts(
         image: I,
+        mode: Mode,
         state: &[u8],
         prg_ram: &[u8],
         chr_ram: &[u8],
@@ -165,18 +129,122 @@ impl<I: AsRef<[u8]>> Board<I> {
         let chr_ram = <[u8; RAM_LENGTH]>::try_from(chr_ram).map_err(|_| Refusal::RamNot8K)?;
         let state = <[u8; STATE_LENGTH]>::try_from(state).map_err(|_| Refusal::StateOutOfRange)?;
         let kept = Digits::of(&state)?;
-        let mut board = Board::load(image, Mode::of_digit(kept[Digit::Mode]))?;
-        let fresh = board.digits();
-        if CARTRIDGE.iter().any(|&digit| kept[digit] != fresh[digit]) {
+        let mut board = Board::load(image, mode)?;
+        if !kept.same_cartridge(&board.digits()) {
             return Err(Refusal::StateOutOfRange);
         }
         board.state = state;
         *board.prg_ram = prg_ram;
         *board.chr_ram = chr_ram;
+        board.last_notice = kept.turned_to();
         Ok(board)
     }
 
+    /// All that goes with this board but its image: to be kept as bytes, and taken up again by
+    /// [`restore`](Board::restore) or [`from_snapshot`](Board::from_snapshot).
+    pub fn snapshot(&self) -> Snapshot {
+        Snapshot {
+            image_hash: image_hash(self.image()),
+            mode: self.mode(),
+            last_notice: self.last_notice,
+            state: self.state,
+            prg_ram: self.prg_ram.clone(),
+            chr_ram: self.chr_ram.clone(),
+        }
+    }
+
+    /// Takes a snapshot up in a board of its image and mode. The answer is the mirroring that now holds,
+    /// for the screens to be turned to it.
+    ///
+    /// # Errors
+    ///
+    /// A snapshot of another image or of the other mode, and one whose state no board of this image could
+    /// have. The board then is as it was.
+    ///
+    /// ```
+    /// use biekkarul::{Board, Mirroring, Mode};
+    ///
+    /// # let mut image = vec![0x4E, 0x45, 0x53, 0x1A, 1, 1, 0x41, 0];
+    /// # image.resize(16 + 16_384 + 8_192, 0);
+    /// let mut board = Board::load(image, Mode::House)?; // MMC3, vertical
+    /// board.write(0xA000, 1)?;
+    /// let kept = board.snapshot();
+    ///
+    /// board.power_cycle()?;
+    /// assert_eq!(board.screens(), Mirroring::Vertical);
+    /// assert_eq!(board.restore(&kept)?, Mirroring::Horizontal);
+    /// # Ok::<(), Box<dyn std::error::Error>>(())
+    /// ```
+    pub fn restore(&mut self, snapshot: &Snapshot) -> Result<Mirroring, SnapshotError> {
+        snapshot.check(self.image(), self.mode())?;
+        self.take_up(snapshot)
+    }
+
+    /// Loads an image and takes a snapshot up in it.
+    ///
+    /// # Errors
+    ///
+    /// Those of [`restore`](Board::restore), and the refusal of an image that cannot be loaded. To keep the
+    /// image then, lend it.
+    pub fn from_snapshot(image: I, mode: Mode, snapshot: &Snapshot) -> Result<Self, SnapshotError> {
+        snapshot.check(image.as_ref(), mode)?;
+        let mut board = Board::load(image, mode).map_err(SnapshotError::ImageRefused)?;
+        board.take_up(snapshot)?;
+        Ok(board)
+    }
+
+    fn take_up(&mut self, snapshot: &Snapshot) -> Result<Mirroring, SnapshotError> {
+        if !snapshot.digits().same_cartridge(&self.digits()) {
+            return Err(SnapshotError::ImpossibleState);
+        }
+        self.state = snapshot.state;
+        *self.prg_ram = *snapshot.prg_ram;
+        *self.chr_ram = *snapshot.chr_ram;
+        self.last_notice = snapshot.last_notice;
+        Ok(self.screens())
+    }
+
+    /// The console is switched off and on: every register is as the load left it, CHR RAM is cleared, and
+    /// PRG RAM keeps what the game saved. The answer is the mirroring that now holds, which is the header's.
+    ///
+    /// # Errors
+    ///
+    /// Those of [`load`](Board::load), where the bytes of the image have changed since; nothing has moved.
+    ///
+    /// ```
+    /// use biekkarul::{Board, Mirroring, Mode, Refusal};
+    ///
+    /// # let mut image = vec![0x4E, 0x45, 0x53, 0x1A, 1, 0, 0x11, 0];
+    /// # image.resize(16 + 16_384, 0);
+    /// let mut board = Board::load(image, Mode::Board)?; // MMC1 with CHR RAM, vertical
+    /// let fresh = board.state();
+    /// board.write(0x6000, 0x2A)?;
+    /// board.write(0x0000, 0x2B)?;
+    /// board.write(0x8000, 1)?; // one bit into the serial register
+    ///
+    /// assert_eq!(board.power_cycle()?, Mirroring::Vertical);
+    /// assert_eq!(board.state(), fresh);
+    /// assert_eq!((board.read(0x6000)?, board.read(0x0000)?), (0x2A, 0));
+    /// # Ok::<(), Refusal>(())
+    /// ```
+    pub fn power_cycle(&mut self) -> Result<Mirroring, Refusal> {
+        let mode = self.mode().number();
+        // A load clears both RAMs that it is lent, so it is lent another one for PRG RAM.
+        let mut cleared = [0; RAM_LENGTH];
+        accepted(ffi::load(
+            self.image.as_ref(),
+            mode,
+            &mut self.state,
+            &mut cleared,
+            &mut self.chr_ram[..],
+        ))?;
+        self.last_notice = None;
+        Ok(self.screens())
+    }
+
     /// The byte at an address: 0000-1FFF for the picture unit, above it for the processor.
+    ///
+    /// # Errors
     ///
     /// In house mode refused with 11 or 13 where potatis panics.
     #[inline]
@@ -193,8 +261,11 @@ impl<I: AsRef<[u8]>> Board<I> {
     /// Writes a byte. The answer is the mirroring that this write gives notice of, if it does.
     ///
     /// In house mode a notice is given when the mirroring asked for differs from the header's, in board
-    /// mode when it differs from the current one. In house mode refused with 12, 13 or 14 where potatis
-    /// panics.
+    /// mode when it differs from the current one.
+    ///
+    /// # Errors
+    ///
+    /// In house mode refused with 12, 13 or 14 where potatis panics.
     #[inline]
     pub fn write(&mut self, address: u16, value: u8) -> Result<Option<Mirroring>, Refusal> {
         let answer = accepted(ffi::write(
@@ -205,10 +276,15 @@ impl<I: AsRef<[u8]>> Board<I> {
             address,
             value,
         ))?;
-        Ok(notice(answer))
+        let notice = notice(answer);
+        if notice.is_some() {
+            self.last_notice = notice;
+        }
+        Ok(notice)
     }
 
     /// The image, as it was given to the load.
+    #[must_use]
     pub fn image(&self) -> &[u8] {
         self.image.as_ref()
     }
@@ -216,14 +292,25 @@ impl<I: AsRef<[u8]>> Board<I> {
 
 impl<I> Board<I> {
     /// One clock of MMC3's counter; true when an IRQ comes. On other boards nothing moves.
+    ///
+    /// # Errors
+    ///
+    /// None on a board that this crate made: the library refuses only states that no board could have.
     #[inline]
     pub fn clock(&mut self) -> Result<bool, Refusal> {
         accepted(ffi::clock(&mut self.state)).map(yes)
     }
 
     /// What the board's registers hold, and what it knows of its cartridge, as numbers.
+    #[must_use]
     pub fn digits(&self) -> Digits {
         Digits::of(&self.state).expect("the library takes every state that it has made")
+    }
+
+    /// What the board's registers hold.
+    #[must_use]
+    pub fn registers(&self) -> Registers {
+        self.digits().registers()
     }
 
     /// Every digit but the length of the image is below 4,096.
@@ -232,66 +319,110 @@ impl<I> Board<I> {
     }
 
     /// The mode that the image was loaded in.
+    #[must_use]
     pub fn mode(&self) -> Mode {
-        Mode::of_digit(self.digits()[Digit::Mode])
+        self.digits().mode()
     }
 
     /// The mapper number: 0 NROM, 1 MMC1, 2 UxROM, 3 CNROM, 4 MMC3.
+    #[must_use]
     pub fn mapper(&self) -> u16 {
         self.small(Digit::Mapper)
     }
 
     /// Whether the header marks NES 2.0; the mark changes nothing.
+    #[must_use]
     pub fn is_nes2(&self) -> bool {
         self.digits()[Digit::Nes2] == 1
     }
 
     /// The mirroring that the header asks for: horizontal or vertical. The screens start with it.
+    #[must_use]
     pub fn header_mirroring(&self) -> Mirroring {
-        Mirroring::of_digit(self.digits()[Digit::HeaderMirroring])
+        self.digits().header_mirroring()
     }
 
     /// The mirroring that the next notice is compared with: in board mode the current one, in house mode
-    /// always the header's, as in potatis. Who needs house mode's last notice keeps it.
+    /// always the header's, as in potatis. Where the screens are turned to, [`screens`](Board::screens)
+    /// says.
+    #[must_use]
     pub fn mirroring(&self) -> Mirroring {
-        Mirroring::of_digit(self.digits()[Digit::Mirroring])
+        self.digits().mirroring()
+    }
+
+    /// The last notice that a write gave, if one did since the load or the last power cycle.
+    #[must_use]
+    pub fn last_notice(&self) -> Option<Mirroring> {
+        self.last_notice
+    }
+
+    /// Where the screens are turned to for one who has followed every notice: the last one, or the
+    /// header's mirroring before the first.
+    #[must_use]
+    pub fn screens(&self) -> Mirroring {
+        self.last_notice.unwrap_or_else(|| self.header_mirroring())
     }
 
     /// The count of 16,384-byte PRG blocks.
+    #[must_use]
     pub fn prg_count(&self) -> u16 {
         self.small(Digit::PrgCount)
     }
 
     /// The count of 8,192-byte CHR blocks; 0 means CHR RAM.
+    #[must_use]
     pub fn chr_count(&self) -> u16 {
         self.small(Digit::ChrCount)
     }
 
     /// PRG RAM: what a game saves.
+    #[must_use]
     pub fn prg_ram(&self) -> &[u8; RAM_LENGTH] {
         &self.prg_ram
     }
 
     /// PRG RAM, to put a saved game back. Any bytes will do.
+    #[must_use]
     pub fn prg_ram_mut(&mut self) -> &mut [u8; RAM_LENGTH] {
         &mut self.prg_ram
     }
 
     /// CHR RAM; not used where the cartridge has CHR ROM.
+    #[must_use]
     pub fn chr_ram(&self) -> &[u8; RAM_LENGTH] {
         &self.chr_ram
     }
 
-    /// The state as docs/ABI.md lays it out, to be kept for [`restore`](Board::restore).
+    /// CHR RAM, to put tiles into it. Any bytes will do.
+    #[must_use]
+    pub fn chr_ram_mut(&mut self) -> &mut [u8; RAM_LENGTH] {
+        &mut self.chr_ram
+    }
+
+    /// The state as docs/ABI.md lays it out. To keep a board, [`snapshot`](Board::snapshot) has it all.
+    #[must_use]
     pub fn state(&self) -> [u8; STATE_LENGTH] {
         self.state
     }
 
     /// Gives the image back.
+    #[must_use]
     pub fn into_image(self) -> I {
         self.image
     }
 }
+
+impl<I: AsRef<[u8]>, J: AsRef<[u8]>> PartialEq<Board<J>> for Board<I> {
+    fn eq(&self, other: &Board<J>) -> bool {
+        self.state == other.state
+            && self.screens() == other.screens()
+            && self.prg_ram == other.prg_ram
+            && self.chr_ram == other.chr_ram
+            && self.image() == other.image()
+    }
+}
+
+impl<I: AsRef<[u8]>> Eq for Board<I> {}
 
 /// Leaves the bytes of the image and of the RAMs out.
 impl<I> fmt::Debug for Board<I> {
@@ -302,33 +433,20 @@ impl<I> fmt::Debug for Board<I> {
             .field("header_mirroring", &self.header_mirroring())
             .field("prg_count", &self.prg_count())
             .field("chr_count", &self.chr_count())
-            .field("state", &self.state)
+            .field("screens", &self.screens())
+            .field("registers", &self.registers())
             .finish_non_exhaustive()
     }
 }
-
-/// What a load fixes for good.
-const CARTRIDGE: [Digit; 9] = [
-    Digit::Version,
-    Digit::Mapper,
-    Digit::Mode,
-    Digit::Nes2,
-    Digit::HeaderMirroring,
-    Digit::PrgRam,
-    Digit::PrgCount,
-    Digit::ChrCount,
-    Digit::ImageLength,
-];
 
 #[inline]
 fn notice(answer: u8) -> Option<Mirroring> {
     match answer {
         0 => None,
-        b'H' => Some(Mirroring::Horizontal),
-        b'V' => Some(Mirroring::Vertical),
-        b'U' => Some(Mirroring::SingleScreenUpper),
-        b'L' => Some(Mirroring::SingleScreenLower),
-        _ => foreign(answer.into()),
+        letter => match Mirroring::from_letter(letter.into()) {
+            None => foreign(answer.into()),
+            notice => notice,
+        },
     }
 }
 
@@ -345,17 +463,10 @@ fn yes(answer: u8) -> bool {
 mod tests {
     use super::*;
 
-    const ALL: [Mirroring; 4] = [
-        Mirroring::Horizontal,
-        Mirroring::Vertical,
-        Mirroring::SingleScreenUpper,
-        Mirroring::SingleScreenLower,
-    ];
-
     #[test]
     fn a_notice_is_its_letter() {
         assert_eq!(notice(0), None);
-        for mirroring in ALL {
+        for mirroring in Mirroring::ALL {
             assert_eq!(notice(mirroring.letter() as u8), Some(mirroring));
         }
     }
@@ -370,13 +481,6 @@ mod tests {
     #[should_panic(expected = "it is another one")]
     fn no_other_clock() {
         yes(2);
-    }
-
-    #[test]
-    fn digits_in_the_order_of_the_layout() {
-        for (digit, mirroring) in (0..4).zip(ALL) {
-            assert_eq!(Mirroring::of_digit(digit), mirroring);
-        }
     }
 
     #[test]

@@ -75,7 +75,7 @@
 //! # let mut image = vec![0x4E, 0x45, 0x53, 0x1A, 1, 1, 0x41, 0];
 //! # image.resize(16 + 16_384 + 8_192, 0);
 //! let board = Board::load(image, Mode::House)?;
-//! let screens = Rc::new(Cell::new(theirs(board.header_mirroring())));
+//! let screens = Rc::new(Cell::new(theirs(board.screens())));
 //! let rom: Rc<RefCell<dyn Mapper>> = Rc::new(RefCell::new(Proved(BusBoard::new(board))));
 //!
 //! let turned = Rc::clone(&screens);
@@ -111,32 +111,85 @@
 //! assert_eq!(cartridge.refusal(), Some(Refusal::BankPastData));
 //! # Ok::<(), Refusal>(())
 //! ```
+//!
+//! # A run that is taken up again
+//!
+//! [`BusBoard::snapshot`] keeps a run, and [`BusBoard::restore`] goes back to it in place: the callback stays
+//! and is told how the screens then stand, since the emulator's picture unit does not know.
+//!
+//! # On other threads
+//!
+//! A `BusBoard` may be sent and cloned where its callback may. The boxed one of potatis may not;
+//! [`BusBoard::with_callback`] takes one of any type:
+//!
+//! ```
+//! use biekkarul::{bus::BusBoard, Board, Mirroring, Mode, Refusal};
+//! use std::sync::atomic::{AtomicUsize, Ordering};
+//! use std::sync::Arc;
+//! use std::thread;
+//!
+//! # let mut image = vec![0x4E, 0x45, 0x53, 0x1A, 1, 1, 0x41, 0];
+//! # image.resize(16 + 16_384 + 8_192, 0);
+//! let turns = Arc::new(AtomicUsize::new(0));
+//! let counted = Arc::clone(&turns);
+//! let cartridge = BusBoard::with_callback(
+//!     Board::load(image, Mode::Board)?,
+//!     move |_: &Mirroring| {
+//!         counted.fetch_add(1, Ordering::Relaxed);
+//!     },
+//! );
+//! let mut copy = cartridge.clone();
+//! thread::spawn(move || copy.write8(1, 0xA000)).join().unwrap();
+//! assert_eq!(turns.load(Ordering::Relaxed), 1);
+//! # Ok::<(), Refusal>(())
+//! ```
 
-use std::cell::Cell;
-use std::fmt;
+use alloc::boxed::Box;
+use alloc::vec::Vec;
+use core::cell::Cell;
+use core::fmt;
 
-use crate::board::{Board, Mirroring};
+use crate::board::Board;
+use crate::mirroring::Mirroring;
 use crate::refusal::Refusal;
+use crate::snapshot::{Snapshot, SnapshotError};
 
-/// What is told of each notice.
-type Callback = Box<dyn FnMut(&Mirroring)>;
+/// What potatis gives to be told of each notice.
+pub type Callback = Box<dyn FnMut(&Mirroring)>;
 
-/// A [`Board`] that is called as potatis calls its mappers.
-pub struct BusBoard<I = Vec<u8>> {
+/// A [`Board`] that is called as potatis calls its mappers. `C` is what is told of each notice.
+#[derive(Clone)]
+pub struct BusBoard<I = Vec<u8>, C = Callback> {
     board: Board<I>,
-    callback: Option<Callback>,
+    callback: Option<C>,
     // A cell, since `read8` takes `&self`, as the emulator's does.
     refusal: Cell<Option<Refusal>>,
 }
 
-impl<I: AsRef<[u8]>> BusBoard<I> {
-    /// Puts a board on the bus.
+impl<I> BusBoard<I> {
+    /// Puts a board on the bus; [`on_runtime_mirroring`](BusBoard::on_runtime_mirroring) may then set a
+    /// callback.
+    #[must_use]
     pub fn new(board: Board<I>) -> Self {
+        BusBoard::over(board, None)
+    }
+}
+
+impl<I, C> BusBoard<I, C> {
+    fn over(board: Board<I>, callback: Option<C>) -> Self {
         BusBoard {
             board,
-            callback: None,
+            callback,
             refusal: Cell::new(None),
         }
+    }
+}
+
+impl<I: AsRef<[u8]>, C: FnMut(&Mirroring)> BusBoard<I, C> {
+    /// Puts a board on the bus, with a callback of any type.
+    #[must_use]
+    pub fn with_callback(board: Board<I>, callback: C) -> Self {
+        BusBoard::over(board, Some(callback))
     }
 
     /// The byte at an address, or 0 once a call was refused.
@@ -180,22 +233,68 @@ impl<I: AsRef<[u8]>> BusBoard<I> {
 
     /// Sets what is told of each notice, in place of what was set before.
     ///
-    /// The screens start with [`Board::header_mirroring`], of which no notice is given.
-    pub fn on_runtime_mirroring(&mut self, callback: Box<dyn FnMut(&Mirroring)>) {
+    /// It is not told how the screens stand now: [`Board::screens`] says that.
+    pub fn on_runtime_mirroring(&mut self, callback: C) {
         self.callback = Some(callback);
     }
 
+    /// Keeps the run, to be taken up again by [`restore`](BusBoard::restore).
+    ///
+    /// # Errors
+    ///
+    /// The refusal that the run ended with: such a run does not go on. The board that it left,
+    /// [`board`](BusBoard::board) still gives.
+    pub fn snapshot(&self) -> Result<Snapshot, Refusal> {
+        match self.refusal() {
+            None => Ok(self.board.snapshot()),
+            Some(refusal) => Err(refusal),
+        }
+    }
+
+    /// Goes back to a snapshot of the same image and mode, to a run without a refusal. The callback stays
+    /// and is told of the mirroring that now holds, which is also the answer.
+    ///
+    /// # Errors
+    ///
+    /// Those of [`Board::restore`]. Then nothing has changed, the callback is told nothing, and a run that
+    /// was over still is.
+    pub fn restore(&mut self, snapshot: &Snapshot) -> Result<Mirroring, SnapshotError> {
+        let mirroring = self.board.restore(snapshot)?;
+        self.refusal.set(None);
+        self.tell(mirroring);
+        Ok(mirroring)
+    }
+
+    /// Switches the console off and on, as [`Board::power_cycle`] does. The callback is told of the
+    /// mirroring that now holds, the header's, which is also the answer.
+    ///
+    /// # Errors
+    ///
+    /// The refusal that the run ended with: a power cycle is a part of the run. And those of
+    /// [`Board::power_cycle`].
+    pub fn power_cycle(&mut self) -> Result<Mirroring, Refusal> {
+        if let Some(refusal) = self.refusal() {
+            return Err(refusal);
+        }
+        let mirroring = self.board.power_cycle()?;
+        self.tell(mirroring);
+        Ok(mirroring)
+    }
+
     /// The first refusal. From it on nothing has moved.
+    #[must_use]
     pub fn refusal(&self) -> Option<Refusal> {
         self.refusal.get()
     }
 
     /// The board, to look at.
+    #[must_use]
     pub fn board(&self) -> &Board<I> {
         &self.board
     }
 
     /// Takes the board off the bus, as it was before the first refusal if there was one.
+    #[must_use]
     pub fn into_board(self) -> Board<I> {
         self.board
     }
@@ -216,7 +315,7 @@ impl<I: AsRef<[u8]>> BusBoard<I> {
     }
 }
 
-impl<I> fmt::Debug for BusBoard<I> {
+impl<I, C> fmt::Debug for BusBoard<I, C> {
     fn fmt(&self, f: &mut fmt::Formatter<'_>) -> fmt::Result {
         f.debug_struct("BusBoard")
             .field("board", &self.board)

@@ -1,8 +1,10 @@
 //! What a state holds, as numbers.
 
-use std::ops::Index;
+use core::ops::Index;
 
 use crate::ffi;
+use crate::mirroring::Mirroring;
+use crate::mode::Mode;
 use crate::refusal::{accepted, Refusal};
 
 /// The count of digits in a state.
@@ -112,7 +114,11 @@ pub enum Digit {
 pub struct Digits([u64; DIGITS]);
 
 impl Digits {
-    /// Reads a state; refused with 10 where no board could have it.
+    /// Reads a state.
+    ///
+    /// # Errors
+    ///
+    /// Refused with 10 where no board could have this state.
     pub fn of(state: &[u8]) -> Result<Digits, Refusal> {
         let mut digits = [0; DIGITS];
         accepted(ffi::digits(state, &mut digits))?;
@@ -120,10 +126,48 @@ impl Digits {
     }
 
     /// All of them, in their order.
+    #[must_use]
     pub const fn all(&self) -> &[u64; DIGITS] {
         &self.0
     }
+
+    /// The mode.
+    #[must_use]
+    pub fn mode(&self) -> Mode {
+        Mode::of_digit(self[Digit::Mode])
+    }
+
+    pub(crate) fn header_mirroring(&self) -> Mirroring {
+        Mirroring::of_digit(self[Digit::HeaderMirroring])
+    }
+
+    pub(crate) fn mirroring(&self) -> Mirroring {
+        Mirroring::of_digit(self[Digit::Mirroring])
+    }
+
+    /// Where a board mode's state says that the screens are turned to, if that is not the header's.
+    pub(crate) fn turned_to(&self) -> Option<Mirroring> {
+        Some(self.mirroring()).filter(|&mirroring| mirroring != self.header_mirroring())
+    }
+
+    /// Whether both are of one image's cartridge in one mode.
+    pub(crate) fn same_cartridge(&self, other: &Digits) -> bool {
+        CARTRIDGE.iter().all(|&digit| self[digit] == other[digit])
+    }
 }
+
+/// What a load fixes for good.
+const CARTRIDGE: &[Digit] = &[
+    Digit::Version,
+    Digit::Mapper,
+    Digit::Mode,
+    Digit::Nes2,
+    Digit::HeaderMirroring,
+    Digit::PrgRam,
+    Digit::PrgCount,
+    Digit::ChrCount,
+    Digit::ImageLength,
+];
 
 impl Index<Digit> for Digits {
     type Output = u64;

@@ -13,6 +13,10 @@
 
 #![allow(unsafe_code)]
 
+/// The version of the calls that are declared here: `BIEKKARUL_VERSION` of the header, and `VERSION` of build.rs,
+/// which refuses a library of another one.
+pub(crate) const VERSION: u32 = 1;
+
 extern "C" {
     fn biekkarul_header(
         image: *const u8,
@@ -66,6 +70,25 @@ extern "C" {
         digits: *mut u64,
         digits_length: usize,
     ) -> u16;
+
+    fn biekkarul_version() -> u32;
+}
+
+/// The library's version, as it says itself.
+#[inline]
+pub(crate) fn version() -> u32 {
+    // SAFETY: it takes nothing and answers a number.
+    unsafe { biekkarul_version() }
+}
+
+/// Every board begins with a load, so a library that does not fit stops there, however it came to be linked.
+#[inline]
+fn check_version() {
+    let linked = version();
+    assert!(
+        linked == VERSION,
+        "the linked library is of version {linked}, but this wrapper is for version {VERSION}"
+    );
 }
 
 #[inline]
@@ -89,6 +112,7 @@ pub(crate) fn load(
     prg_ram: &mut [u8],
     chr_ram: &mut [u8],
 ) -> u16 {
+    check_version();
     // SAFETY: all four pairs are whole slices; the three that are written are exclusive, so neither
     // overlaps with another or with `image`. Every `mode` is taken.
     unsafe {
@@ -175,5 +199,26 @@ pub(crate) fn digits(state: &[u8], digits: &mut [u64]) -> u16 {
             digits.as_mut_ptr(),
             digits.len(),
         )
+    }
+}
+
+#[cfg(test)]
+mod tests {
+    use super::*;
+
+    const HEADER: &str = include_str!("../../include/biekkarul.h");
+    const BUILD: &str = include_str!("../build.rs");
+
+    fn number_after(text: &str, words: &str) -> u32 {
+        let (_, rest) = text.split_once(words).expect(words);
+        let digits = rest.split(|letter: char| !letter.is_ascii_digit()).next();
+        digits.unwrap_or_default().parse().expect(words)
+    }
+
+    #[test]
+    fn one_version_everywhere() {
+        assert_eq!(version(), VERSION);
+        assert_eq!(number_after(HEADER, "#define BIEKKARUL_VERSION "), VERSION);
+        assert_eq!(number_after(BUILD, "const VERSION: u32 = "), VERSION);
     }
 }

@@ -1,7 +1,7 @@
 //! The iNES header alone.
 
-use crate::board::Mirroring;
 use crate::ffi;
+use crate::mirroring::Mirroring;
 use crate::refusal::{accepted, Refusal};
 
 const FIELDS_LENGTH: usize = 12;
@@ -29,6 +29,10 @@ pub struct Header {
 
 impl Header {
     /// Reads the header of an image; what follows its 16 bytes is not looked at.
+    ///
+    /// # Errors
+    ///
+    /// Refused with 1 for fewer than 16 bytes, with 2 where they do not begin with 4E 45 53 1A.
     pub fn read(image: &[u8]) -> Result<Header, Refusal> {
         let mut fields = [0; FIELDS_LENGTH];
         accepted(ffi::header(image, &mut fields))?;
@@ -36,36 +40,43 @@ impl Header {
     }
 
     /// Bytes 4 to 15.
+    #[must_use]
     pub const fn fields(&self) -> &[u8; FIELDS_LENGTH] {
         &self.fields
     }
 
     /// Byte 4: the count of 16,384-byte PRG blocks.
+    #[must_use]
     pub const fn prg_count(&self) -> u16 {
         self.fields[0] as u16
     }
 
     /// Byte 5: the count of 8,192-byte CHR blocks; 0 means CHR RAM.
+    #[must_use]
     pub const fn chr_count(&self) -> u16 {
         self.fields[1] as u16
     }
 
     /// Byte 6: flags.
+    #[must_use]
     pub const fn flags6(&self) -> u8 {
         self.fields[2]
     }
 
     /// Byte 7: flags.
+    #[must_use]
     pub const fn flags7(&self) -> u8 {
         self.fields[3]
     }
 
     /// The mapper: the high nibble of byte 7 over the high nibble of byte 6.
+    #[must_use]
     pub const fn mapper(&self) -> u16 {
         ((self.flags7() & 0xF0) | (self.flags6() >> 4)) as u16
     }
 
     /// Byte 6 bit 0: set vertical, clear horizontal.
+    #[must_use]
     pub const fn mirroring(&self) -> Mirroring {
         if self.flags6() & 0x01 != 0 {
             Mirroring::Vertical
@@ -74,22 +85,32 @@ impl Header {
         }
     }
 
+    /// Byte 6 bit 1: PRG RAM has a battery. The mark changes nothing: every board has PRG RAM.
+    #[must_use]
+    pub const fn has_battery(&self) -> bool {
+        self.flags6() & 0x02 != 0
+    }
+
     /// Byte 6 bit 2: a trainer stands before the PRG data. Such an image is not loaded.
+    #[must_use]
     pub const fn has_trainer(&self) -> bool {
         self.flags6() & 0x04 != 0
     }
 
     /// Byte 6 bit 3: four screens. Such an image is not loaded.
+    #[must_use]
     pub const fn has_four_screens(&self) -> bool {
         self.flags6() & 0x08 != 0
     }
 
     /// Byte 7 marks NES 2.0; the mark changes nothing.
+    #[must_use]
     pub const fn is_nes2(&self) -> bool {
         self.flags7() & 0x0C == 0x08
     }
 
     /// The bytes that the counts ask for after the header.
+    #[must_use]
     pub const fn total_size_excluding_header(&self) -> usize {
         self.fields[0] as usize * PRG_BLOCK + self.fields[1] as usize * CHR_BLOCK
     }
@@ -98,6 +119,7 @@ impl Header {
 #[cfg(test)]
 mod tests {
     use super::*;
+    use alloc::vec::Vec;
 
     fn image(fields: [u8; 12]) -> Vec<u8> {
         [&b"NES\x1A"[..], &fields[..]].concat()
@@ -111,6 +133,9 @@ mod tests {
         assert_eq!(header.mapper(), 0xA5);
         assert_eq!(header.mirroring(), Mirroring::Vertical);
         assert!(header.has_trainer() && header.has_four_screens() && header.is_nes2());
+        assert!(!header.has_battery());
+        let battery = [1, 0, 0x02, 0, 0, 0, 0, 0, 0, 0, 0, 0];
+        assert!(Header::read(&image(battery)).unwrap().has_battery());
         assert_eq!(header.total_size_excluding_header(), 6_266_880);
     }
 

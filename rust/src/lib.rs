@@ -26,23 +26,38 @@
 //!
 //! - [`Board`] is one cartridge in one [`Mode`], with its registers and both RAMs.
 //! - [`Refusal`] says why a call was refused. A refused call has changed nothing.
-//! - [`Digits`] are what a kept state holds, register by register.
+//! - [`Snapshot`] keeps a board as bytes and knows its image and its mode again.
+//! - [`Registers`] are what a board's registers hold; [`Digits`] are all that a state holds, as numbers.
 //! - [`bus`] has the same board in the shape of the emulator's bus.
-//! - [`trace`] plays a recorded trace and gives its text.
+//! - [`trace`] writes, reads and plays recorded traces.
 //! - [`Header`] is the header alone.
+//!
+//! The default feature `std` makes the error types `std::error::Error`s. Without it the crate needs only
+//! `core` and `alloc`.
 
+#![cfg_attr(not(any(feature = "std", test)), no_std)]
 #![deny(unsafe_code)]
 #![warn(missing_docs)]
+
+extern crate alloc;
 
 mod board;
 pub mod bus;
 mod digits;
 mod ffi;
 mod header;
+mod mirroring;
+mod mode;
 mod refusal;
+mod registers;
+mod snapshot;
 pub mod trace;
 
-pub use board::{Board, Mirroring, Mode, RAM_LENGTH, STATE_LENGTH};
+pub use board::{Board, RAM_LENGTH, STATE_LENGTH};
 pub use digits::{Digit, Digits, DIGITS};
 pub use header::Header;
+pub use mirroring::Mirroring;
+pub use mode::{Mode, UnknownMode};
 pub use refusal::Refusal;
+pub use registers::{Mmc1Registers, Mmc3Registers, Registers};
+pub use snapshot::{image_hash, Snapshot, SnapshotError};

@@ -1,7 +1,6 @@
 //! Why a call was refused.
 
-use std::error::Error;
-use std::fmt;
+use core::fmt;
 
 /// A refusal: its number, a name and a sentence. A refused call has changed nothing.
 ///
@@ -39,7 +38,8 @@ pub enum Refusal {
     /// Load, read, write: a RAM is not exactly 8,192 bytes.
     RamNot8K = 9,
     /// Read, write, clock, digits: the state is none that a board could have. Read, write: or the image
-    /// has another length than the one loaded. Restore: or the state is another cartridge's.
+    /// has another length than the one loaded. [`Board::from_parts`](crate::Board::from_parts): or the state
+    /// is another cartridge's or of the other mode.
     StateOutOfRange = 10,
     /// House read: the bank ends past the data.
     BankPastData = 11,
@@ -55,7 +55,7 @@ pub enum Refusal {
 
 impl Refusal {
     /// Every refusal, in the order of the numbers.
-    pub const ALL: [Refusal; 15] = [
+    pub const ALL: &'static [Refusal] = &[
         Refusal::HeaderTooShort,
         Refusal::HeaderNotInes,
         Refusal::ImageNotInes,
@@ -74,17 +74,36 @@ impl Refusal {
     ];
 
     /// The refusal of this number, if there is one.
-    pub fn from_number(number: u16) -> Option<Refusal> {
-        let place = usize::from(number).checked_sub(1)?;
-        Refusal::ALL.get(place).copied()
+    #[must_use]
+    pub const fn from_number(number: u16) -> Option<Refusal> {
+        match number {
+            1 => Some(Refusal::HeaderTooShort),
+            2 => Some(Refusal::HeaderNotInes),
+            3 => Some(Refusal::ImageNotInes),
+            4 => Some(Refusal::MapperNotTaken),
+            5 => Some(Refusal::TrainerOrFourScreen),
+            6 => Some(Refusal::PrgCountNotTaken),
+            7 => Some(Refusal::ImageTooShort),
+            8 => Some(Refusal::CountNoPowerOfTwo),
+            9 => Some(Refusal::RamNot8K),
+            10 => Some(Refusal::StateOutOfRange),
+            11 => Some(Refusal::BankPastData),
+            12 => Some(Refusal::NoChrRam),
+            13 => Some(Refusal::NoSuchPlace),
+            14 => Some(Refusal::IrqPending),
+            15 => Some(Refusal::TraceMalformed),
+            _ => None,
+        }
     }
 
-    /// The number, from 1 to 15.
+    /// The number, from 1 to 255; not every number has a refusal.
+    #[must_use]
     pub const fn number(self) -> u8 {
         self as u8
     }
 
     /// The name, as it is written in code.
+    #[must_use]
     pub const fn name(self) -> &'static str {
         match self {
             Refusal::HeaderTooShort => "HeaderTooShort",
@@ -106,6 +125,7 @@ impl Refusal {
     }
 
     /// What is wrong, for the reader of a log.
+    #[must_use]
     pub const fn sentence(self) -> &'static str {
         match self {
             Refusal::HeaderTooShort => "the header has fewer than 16 bytes",
@@ -120,7 +140,7 @@ impl Refusal {
             Refusal::CountNoPowerOfTwo => "a block count is no power of two",
             Refusal::RamNot8K => "a RAM is not exactly 8,192 bytes",
             Refusal::StateOutOfRange => {
-                "the state is none that this board could have, or the image has another length than the one loaded"
+                "the state is none that a board of this image and mode could have, or the image has another length than the one loaded"
             }
             Refusal::BankPastData => "the bank this read uses ends past the PRG or CHR data",
             Refusal::NoChrRam => "there is no CHR RAM to write to",
@@ -138,7 +158,8 @@ impl fmt::Display for Refusal {
     }
 }
 
-impl Error for Refusal {}
+#[cfg(feature = "std")]
+impl std::error::Error for Refusal {}
 
 /// The byte that an exported function answered, or its refusal (256 and the number).
 #[inline]
@@ -165,20 +186,28 @@ pub(crate) fn foreign(answer: u16) -> ! {
 #[cfg(test)]
 mod tests {
     use super::*;
+    use alloc::format;
 
     #[test]
-    fn numbers_run_from_1_to_15() {
-        for (place, refusal) in Refusal::ALL.iter().enumerate() {
-            assert_eq!(usize::from(refusal.number()), place + 1);
-            assert_eq!(
-                Refusal::from_number(refusal.number().into()),
-                Some(*refusal)
-            );
+    fn a_number_leads_to_the_refusal_that_has_it() {
+        for number in 0..=u16::MAX {
+            let wanted = Refusal::ALL
+                .iter()
+                .find(|refusal| u16::from(refusal.number()) == number);
+            assert_eq!(Refusal::from_number(number), wanted.copied(), "{number}");
+        }
+        assert_eq!(Refusal::ALL.len(), 15);
+    }
+
+    #[test]
+    fn every_refusal_has_its_name_and_a_sentence() {
+        for refusal in Refusal::ALL {
             assert_eq!(refusal.name(), format!("{refusal:?}"));
             assert!(!refusal.sentence().is_empty());
         }
-        assert_eq!(Refusal::from_number(0), None);
-        assert_eq!(Refusal::from_number(16), None);
+        for pair in Refusal::ALL.windows(2) {
+            assert!(pair[0].number() < pair[1].number());
+        }
     }
 
     #[test]

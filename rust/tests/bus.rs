@@ -4,9 +4,12 @@ mod common;
 
 use std::cell::RefCell;
 use std::rc::Rc;
+use std::sync::atomic::{AtomicUsize, Ordering};
+use std::sync::Arc;
+use std::thread;
 
 use biekkarul::bus::BusBoard;
-use biekkarul::{Mirroring, Mode, Refusal};
+use biekkarul::{Mirroring, Mode, Refusal, SnapshotError};
 use common::{data, kept, load, MMC1, MMC3, UXROM};
 
 /// A cartridge on the bus, and the notices it has given.
@@ -100,4 +103,75 @@ fn after_a_refused_write_nothing_moves_and_the_first_refusal_stays() {
     assert_eq!(cartridge.refusal(), Some(Refusal::IrqPending));
     assert!(kept(cartridge.board()) == before);
     assert!(notices.borrow().is_empty());
+}
+
+/// The callback is told how the screens stand, once; it stays, and the run goes on.
+#[test]
+fn a_run_is_taken_up_in_place() {
+    let (mut cartridge, notices) = on_bus(MMC3 | 1, 2, 1, Mode::House);
+    cartridge.write8(1, 0xA000);
+    cartridge.write8(0x2A, 0x6000);
+    let snapshot = cartridge.snapshot().unwrap();
+    cartridge.write8(0x2B, 0x6000);
+    assert_eq!(cartridge.power_cycle(), Ok(Mirroring::Vertical));
+    assert_eq!(cartridge.read8(0x6000), 0x2B);
+    assert_eq!(cartridge.restore(&snapshot), Ok(Mirroring::Horizontal));
+    assert_eq!(cartridge.read8(0x6000), 0x2A);
+    cartridge.write8(1, 0xA000);
+    let (h, v) = (Mirroring::Horizontal, Mirroring::Vertical);
+    assert_eq!(*notices.borrow(), [h, v, h, h]);
+    assert_eq!(cartridge.board().screens(), h);
+}
+
+#[test]
+fn a_run_that_is_over_is_not_kept_but_can_be_gone_back_from() {
+    let (mut cartridge, notices) = on_bus(UXROM, 2, 0, Mode::House);
+    let before = cartridge.snapshot().unwrap();
+    cartridge.write8(2, 0x8000);
+    assert_eq!(cartridge.read8(0x8000), 0);
+    let over = Refusal::BankPastData;
+    assert_eq!(cartridge.snapshot(), Err(over));
+    assert_eq!(cartridge.power_cycle(), Err(over));
+    assert_eq!(cartridge.refusal(), Some(over));
+    assert!(notices.borrow().is_empty());
+
+    let of_another = load(UXROM, 4, 0, Mode::House).snapshot();
+    let refused = cartridge.restore(&of_another);
+    assert_eq!(refused, Err(SnapshotError::OtherImage));
+    assert_eq!(cartridge.refusal(), Some(over));
+    assert!(notices.borrow().is_empty());
+
+    assert_eq!(cartridge.restore(&before), Ok(Mirroring::Horizontal));
+    assert_eq!(cartridge.refusal(), None);
+    assert_eq!(cartridge.read8(0x8000), data(0));
+}
+
+#[test]
+fn a_snapshot_of_the_other_mode_is_not_taken_up() {
+    let (mut cartridge, notices) = on_bus(MMC3, 2, 1, Mode::House);
+    let kept = Mode::Board;
+    let snapshot = load(MMC3, 2, 1, kept).snapshot();
+    let refused = cartridge.restore(&snapshot);
+    assert_eq!(refused, Err(SnapshotError::OtherMode { kept }));
+    assert!(notices.borrow().is_empty());
+}
+
+#[test]
+fn sent_and_cloned_where_the_callback_is() {
+    fn is_send_and_clone<T: Send + Clone>(_: &T) {}
+    let told = Arc::new(AtomicUsize::new(0));
+    let counted = Arc::clone(&told);
+    let mut cartridge =
+        BusBoard::with_callback(load(MMC3, 2, 1, Mode::Board), move |_: &Mirroring| {
+            counted.fetch_add(1, Ordering::Relaxed);
+        });
+    is_send_and_clone(&cartridge);
+    let mut copy = cartridge.clone();
+    cartridge.write8(0, 0xA000);
+    let sent = thread::spawn(move || {
+        copy.write8(0, 0xA000);
+        copy.board().screens()
+    });
+    assert_eq!(sent.join().unwrap(), Mirroring::Vertical);
+    assert_eq!(told.load(Ordering::Relaxed), 2);
 }

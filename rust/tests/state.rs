@@ -9,12 +9,13 @@ use common::{
 
 const RAM: [u8; RAM_LENGTH] = [0; RAM_LENGTH];
 
-fn restore(bytes: &[u8], state: &[u8]) -> Result<(), Refusal> {
-    Board::restore(bytes, state, &RAM, &RAM).map(|_| ())
+/// Whether a board is made of this state, in this mode.
+fn from_state(bytes: &[u8], mode: Mode, state: &[u8]) -> Result<(), Refusal> {
+    Board::from_parts(bytes, mode, state, &RAM, &RAM).map(|_| ())
 }
 
 #[test]
-fn a_restored_board_goes_on_as_the_first() {
+fn a_board_made_of_its_parts_goes_on_as_the_first() {
     let mut numbers = Numbers(4);
     for (mapper, prg, chr) in [
         (NROM, 2, 0),
@@ -29,8 +30,9 @@ fn a_restored_board_goes_on_as_the_first() {
             for round in 0..200 {
                 let (address, value) = (numbers.next() as u16, numbers.next() as u8);
                 let _ = first.write(address, value);
-                let mut second = Board::restore(
+                let mut second = Board::from_parts(
                     first.image().to_vec(),
+                    mode,
                     &first.state(),
                     first.prg_ram(),
                     first.chr_ram(),
@@ -39,6 +41,9 @@ fn a_restored_board_goes_on_as_the_first() {
                     panic!("mapper {mapper:02X} {mode:?} {round}: {refusal}")
                 });
                 assert!(kept(&first) == kept(&second));
+                if mode == Mode::Board {
+                    assert_eq!(first, second, "the state says how the screens are turned");
+                }
                 assert_eq!(packed(first.digits().all()), first.state());
                 for _ in 0..20 {
                     let (address, value) = (numbers.next() as u16, numbers.next() as u8);
@@ -59,20 +64,29 @@ fn rams_first_then_the_states_length_then_the_image() {
     let state = load(NROM, 1, 0, Mode::House).state();
     for short in [&RAM[..0], &RAM[..RAM_LENGTH - 1], &[0; RAM_LENGTH + 1][..]] {
         for state in [&state[..], &[]] {
-            let prg = Board::restore(&bytes[..0], state, short, &RAM).unwrap_err();
-            let chr = Board::restore(&bytes[..0], state, &RAM, short).unwrap_err();
+            let prg = Board::from_parts(&bytes[..0], Mode::House, state, short, &RAM).unwrap_err();
+            let chr = Board::from_parts(&bytes[..0], Mode::House, state, &RAM, short).unwrap_err();
             assert_eq!((prg, chr), (Refusal::RamNot8K, Refusal::RamNot8K));
         }
     }
     for length in [0, 39, 41] {
         let mut other = state.to_vec();
         other.resize(length, 0);
-        assert_eq!(restore(&bytes[..0], &other), Err(Refusal::StateOutOfRange));
+        assert_eq!(
+            from_state(&bytes[..0], Mode::House, &other),
+            Err(Refusal::StateOutOfRange)
+        );
     }
     let other = [0xFF; STATE_LENGTH];
-    assert_eq!(restore(&bytes[..0], &other), Err(Refusal::StateOutOfRange));
-    assert_eq!(restore(&bytes[..0], &state), Err(Refusal::ImageNotInes));
-    assert_eq!(restore(&bytes, &state), Ok(()));
+    assert_eq!(
+        from_state(&bytes[..0], Mode::House, &other),
+        Err(Refusal::StateOutOfRange)
+    );
+    assert_eq!(
+        from_state(&bytes[..0], Mode::House, &state),
+        Err(Refusal::ImageNotInes)
+    );
+    assert_eq!(from_state(&bytes, Mode::House, &state), Ok(()));
 }
 
 #[test]
@@ -90,28 +104,44 @@ fn a_state_of_another_cartridge_is_refused() {
         longer,
         marked,
     ] {
-        assert_eq!(restore(&other, &state), Err(Refusal::StateOutOfRange));
+        assert_eq!(
+            from_state(&other, Mode::House, &state),
+            Err(Refusal::StateOutOfRange)
+        );
     }
-    assert_eq!(restore(&image(UXROM, 2, 0), &state), Ok(()));
+    assert_eq!(from_state(&image(UXROM, 2, 0), Mode::House, &state), Ok(()));
 }
 
-/// Of a fresh NROM state only the mode may be another one: each further bit is fixed by the image, or is one
-/// that no NROM board sets.
+/// Of a fresh NROM state no bit may be another one: each is fixed by the image or by the mode, or is one that
+/// no NROM board sets.
 #[test]
 fn a_state_that_no_board_could_have_is_refused() {
     let bytes = image(NROM, 1, 0);
     for mode in BOTH_MODES {
         let state = load(NROM, 1, 0, mode).state();
-        let in_either_mode = BOTH_MODES.map(|mode| load(NROM, 1, 0, mode).state());
+        assert_eq!(from_state(&bytes, mode, &state), Ok(()));
         for bit in 0..8 * STATE_LENGTH {
             let mut bad = state;
             bad[bit / 8] ^= 1 << (bit % 8);
-            let wanted = if in_either_mode.contains(&bad) {
-                Ok(())
-            } else {
-                Err(Refusal::StateOutOfRange)
-            };
-            assert_eq!(restore(&bytes, &bad), wanted, "{mode:?}, bit {bit}");
+            let refused = Err(Refusal::StateOutOfRange);
+            assert_eq!(from_state(&bytes, mode, &bad), refused, "{mode}, bit {bit}");
+        }
+    }
+}
+
+/// "A title never leaves its mode."
+#[test]
+fn a_state_of_the_other_mode_is_refused() {
+    for mapper in [NROM, MMC1, UXROM, CNROM, MMC3] {
+        let bytes = image(mapper, 2, 1);
+        for (mode, other) in [(Mode::House, Mode::Board), (Mode::Board, Mode::House)] {
+            let state = load(mapper, 2, 1, mode).state();
+            let refused = Err(Refusal::StateOutOfRange);
+            assert_eq!(from_state(&bytes, other, &state), refused);
+            let mut flipped = state;
+            flipped[2] ^= 1; // the mode's bit
+            assert_eq!(Digits::of(&flipped).map(|digits| digits.mode()), Ok(other));
+            assert_eq!(from_state(&bytes, mode, &flipped), refused);
         }
     }
 }
@@ -124,7 +154,10 @@ fn a_state_of_another_version_is_refused() {
         for version in 0..256 {
             let state = packed(&with(board.digits(), Digit::Version, version));
             assert_eq!(Digits::of(&state).is_ok(), version == 1, "{version}");
-            assert_eq!(restore(board.image(), &state).is_ok(), version == 1);
+            assert_eq!(
+                from_state(board.image(), Mode::Board, &state).is_ok(),
+                version == 1
+            );
         }
     }
 }
@@ -139,7 +172,7 @@ fn a_serial_register_that_is_none_is_refused() {
             digits[Digit::Mmc1SerialCount as usize] = count;
             digits[Digit::Mmc1SerialValue as usize] = value;
             let is_one = count <= 4 && value % (1 << (5 - count)) == 0;
-            let restored = restore(&bytes, &packed(&digits));
+            let restored = from_state(&bytes, mode, &packed(&digits));
             assert_eq!(restored.is_ok(), is_one, "{count} {value}");
         }
     }
@@ -187,8 +220,21 @@ fn a_saved_game_is_put_back() {
 }
 
 #[test]
-fn debug_shows_the_cartridge_and_not_its_bytes() {
-    let text = format!("{:?}", load(MMC3, 2, 1, Mode::House));
-    assert!(text.starts_with("Board { mode: House, mapper: 4, header_mirroring: Horizontal"));
-    assert!(text.len() < 400, "{text}");
+fn tiles_are_put_into_chr_ram() {
+    let mut board = load(NROM, 1, 0, Mode::House);
+    board.chr_ram_mut()[0x1234] = 0x2A;
+    assert_eq!(board.read(0x1234), Ok(0x2A));
+}
+
+#[test]
+fn debug_shows_the_registers_and_no_bytes() {
+    let mut board = load(MMC3, 2, 1, Mode::House);
+    board.write(0xC000, 7).unwrap();
+    board.write(0xA000, 0).unwrap();
+    assert_eq!(
+        format!("{board:?}"),
+        "Board { mode: House, mapper: 4, header_mirroring: Horizontal, prg_count: 2, chr_count: 1, \
+         screens: Vertical, registers: Mmc3(Mmc3Registers { banks: [0, 0, 0, 0, 0, 0, 0, 0], select: 0, \
+         prg_mode: 0, chr_mode: 0, latch: 7, counter: 0, irq_enabled: false, reload: false }), .. }"
+    );
 }

@@ -3,10 +3,11 @@
 mod common;
 
 use biekkarul::trace::Trace;
-use biekkarul::{Board, Mirroring, Mode, Refusal};
+use biekkarul::{Board, Mirroring, Mode, Refusal, Snapshot};
 
 const TRACE: &[u8] = include_bytes!("../examples/worked_case.trace");
 const TEXT: &str = include_str!("../examples/worked_case.txt");
+const SNAPSHOT: &[u8] = include_bytes!("../examples/worked_case.snapshot");
 
 const EXPECTED: [&str; 17] = [
     "load 4 V 1 1",
@@ -155,4 +156,20 @@ fn a_refused_load_gives_its_number() {
         Trace::parse(&bytes).unwrap().play(),
         Err(Refusal::ImageNotInes)
     );
+}
+
+/// The kept snapshot was written by another program, from the table of the format. Where this fails, the format
+/// has changed, and so must its version.
+#[test]
+fn a_snapshot_that_was_kept_is_still_read() {
+    let trace = Trace::parse(TRACE).unwrap();
+    let mut board = Board::load(trace.image(), Mode::House).unwrap();
+    for event in trace.events() {
+        let _ = event.play(&mut board);
+    }
+    assert!(board.snapshot().to_bytes() == SNAPSHOT);
+    let snapshot = Snapshot::from_bytes(SNAPSHOT).unwrap();
+    let mut fresh = Board::load(trace.image(), Mode::House).unwrap();
+    assert_eq!(fresh.restore(&snapshot), Ok(Mirroring::Horizontal));
+    assert_eq!(fresh, board);
 }

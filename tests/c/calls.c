@@ -530,6 +530,12 @@ static void check_p9_to_p12(void) {
 }
 
 static void check_house_refusals(void) {
+    start(UXROM * 16, 2, 0, BIEKKARUL_HOUSE);
+    expect("a bank past the data", write_at(0x8000, 255), BIEKKARUL_NO_NOTICE);
+    keep();
+    expect("11", read_at(0x8000), REFUSED(BIEKKARUL_BANK_PAST_DATA));
+    expect("11, the last bank stays", read_at(0xC000), data_at(PRG_BLOCK));
+    expect_untouched("11");
     start(NROM * 16, 1, 1, BIEKKARUL_HOUSE);
     keep();
     expect("12", write_at(0x1FFF, 1), REFUSED(BIEKKARUL_NO_CHR_RAM));
@@ -560,7 +566,23 @@ static void check_notices(void) {
     }
 }
 
+/* The names of the header are the numbers of document 01, and its answers are the library's. */
+static void check_names(void) {
+    static const unsigned refusals[14] = {
+        BIEKKARUL_HEADER_TOO_SHORT, BIEKKARUL_HEADER_NOT_INES, BIEKKARUL_IMAGE_NOT_INES, BIEKKARUL_MAPPER_NOT_TAKEN,
+        BIEKKARUL_TRAINER_OR_FOUR_SCREEN, BIEKKARUL_PRG_COUNT_NOT_TAKEN, BIEKKARUL_IMAGE_TOO_SHORT,
+        BIEKKARUL_COUNT_NO_POWER_OF_TWO, BIEKKARUL_RAM_NOT_8K, BIEKKARUL_STATE_OUT_OF_RANGE, BIEKKARUL_BANK_PAST_DATA,
+        BIEKKARUL_NO_CHR_RAM, BIEKKARUL_NO_SUCH_PLACE, BIEKKARUL_IRQ_PENDING};
+    unsigned i;
+    for (i = 0; i < 14; i++) expect("the number of a refusal", refusals[i], i + 1);
+    expect("a refusal", BIEKKARUL_IS_REFUSED(256), 1);
+    expect("an answer", BIEKKARUL_IS_REFUSED(255), 0);
+    expect("a refusal's number", BIEKKARUL_REFUSAL(256 + 14), 14);
+    expect("the library's version", biekkarul_version(), BIEKKARUL_VERSION);
+}
+
 int main(void) {
+    check_names();
     check_header();
     check_load_clears();
     check_load_order();

@@ -1,6 +1,6 @@
 -- The public clock.
 use mathlib.Core.Bool.{Bool, true, false, cond}
-use Rattle.cartridge.specs.declared.Refusal.the-variants.{StateOutOfRange}
+use Rattle.common.specs.declared.Refusal.the-variants.{StateOutOfRange}
 use Rattle.boards.specs.Registers.{ticked}
 use Rattle.boards.specs.Range.{inRange}
 use Rattle.boards.specs.Write.{withRegisters}

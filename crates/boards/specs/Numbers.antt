@@ -1,7 +1,7 @@
 -- The answers of the calls as numbers; the cases have document 01's numbers and letters.
 use Prim.Native.Nat.{ℕ, _+_}
-use Rattle.cartridge.specs.Answers.{refusalNumber, mirroringLetter}
-use Rattle.cartridge.specs.declared.Refusal.{Refusal}
+use Rattle.common.specs.Answers.{refusalNumber, mirroringLetter}
+use Rattle.common.specs.declared.Refusal.{Refusal}
 use Rattle.places.specs.declared.ReadAnswer.{ReadAnswer}
 use Rattle.places.specs.declared.ReadAnswer.the-variants.{Byte, Refused as NotRead}
 use Rattle.boards.specs.declared.LoadAnswer.{LoadAnswer}

@@ -1,18 +1,19 @@
--- "State ranges", and the refusals that every call has: 9 and 10.
+-- "State ranges", and the refusals that come before the board's own: 9 and 10.
 use Prim.Native.Nat.{ℕ}
 use mathlib.Core.Bool.{Bool, true, cond, _&&_}
 use lib.Dec.{eqb}
+use Rattle.common.specs.Answers.{same, isHeaders}
 use Rattle.common.specs.declared.Mode.{Mode}
 use Rattle.common.specs.declared.Mode.the-variants.{House, Board as OnBoard}
-use Rattle.cartridge.specs.Answers.{same, isMapper}
-use Rattle.cartridge.specs.Load.{couldLoad, isHeaders}
+use Rattle.common.specs.declared.Mirroring.{Mirroring}
+use Rattle.common.specs.declared.Refusal.the-variants.{RamNot8K, StateOutOfRange}
+use Rattle.cartridge.specs.Load.{couldLoad}
+use Rattle.cartridge.specs.Mappers.{isMapper}
 use Rattle.cartridge.specs.declared.Cartridge.{Cartridge}
-use Rattle.cartridge.specs.declared.Mirroring.{Mirroring}
-use Rattle.cartridge.specs.declared.Refusal.the-variants.{RamNot8K, StateOutOfRange}
 use Rattle.cartridge.specs.declared.MapperType.{MapperType}
 use Rattle.cartridge.specs.declared.MapperType.the-variants.{Mmc1, Mmc3}
-use Rattle.places.specs.declared.Place.{Place}
-use Rattle.places.specs.declared.Place.the-variants.{Refused}
+use Rattle.places.specs.declared.Landing.{Landing}
+use Rattle.places.specs.declared.Landing.the-variants.{Refused}
 use Rattle.boards.specs.Registers.{fits}
 use Rattle.boards.specs.declared.Board.{Board}
 
@@ -29,7 +30,7 @@ screensFit OnBoard k same headers = turnedFit k same headers
 abbrev pub screensKept : Cartridge → Mirroring → Bool
 screensKept c now = screensFit (c .mode) (c .mapper) (same now (c .mirroring)) (isHeaders now)
 
--- and of a board
+-- that sentence, of a board
 unfoldable pub mirroringFits : Board → Bool
 mirroringFits b = screensKept (b .cart) (b .mirroring)
 
@@ -41,10 +42,6 @@ inRange b = couldLoad (b .cart) && fits (b .cart .mapper) (b .registers) && mirr
 unfoldable pub isLoaded : Board → ℕ → Bool
 isLoaded b length = inRange b && eqb length (b .cart .length)
 
--- refusal 9: "a lent RAM is not exactly 8,192 bytes"
-unfoldable pub ramsFit : ℕ → ℕ → Bool
-ramsFit prg chr = eqb prg 8192 && eqb chr 8192
-
 -- "In read and write: 9, 10, then the board's own"
-unfoldable pub guarded : Bool → Bool → Place → Place
-guarded rams state p = cond rams (cond state p (Refused StateOutOfRange)) (Refused RamNot8K)
+unfoldable pub guarded : Bool → Bool → Landing → Landing
+guarded rams state l = cond rams (cond state l (Refused StateOutOfRange)) (Refused RamNot8K)

@@ -6,10 +6,10 @@ use mathlib.Core.List.{List}
 use lib.ListN.{length}
 use Rattle.common.specs.declared.Mode.{Mode}
 use Rattle.common.specs.declared.Mode.the-variants.{House}
+use Rattle.common.specs.declared.Mirroring.the-variants.{Horizontal}
 use Rattle.cartridge.specs.Header.{headerOf}
 use Rattle.cartridge.specs.Load.{verdict, cartridgeOf, loadedAs, ramAfter}
 use Rattle.cartridge.specs.declared.Cartridge.{Cartridge}
-use Rattle.cartridge.specs.declared.Mirroring.the-variants.{Horizontal}
 use Rattle.cartridge.specs.declared.MapperType.the-variants.{Nrom}
 use Rattle.cartridge.specs.declared.Loaded as Cart
 use Rattle.boards.specs.Registers.{start}

@@ -4,25 +4,27 @@ use mathlib.Core.Path.{_≡_}
 use mathlib.Core.Bool.{Bool, cond}
 use mathlib.Core.List.{List}
 use lib.ListN.{length}
+use Rattle.common.specs.Answers.{same}
 use Rattle.common.specs.declared.Mode.{Mode}
 use Rattle.common.specs.declared.Mode.the-variants.{House, Board as OnBoard}
-use Rattle.cartridge.specs.Answers.{same}
+use Rattle.common.specs.declared.Mirroring.{Mirroring}
+use Rattle.common.specs.declared.Mirrors.{Mirrors}
+use Rattle.common.specs.declared.Mirrors.the-variants.{AsBefore, As}
+use Rattle.cartridge.specs.Load.{ramsFit}
 use Rattle.cartridge.specs.declared.Cartridge.{Cartridge}
-use Rattle.cartridge.specs.declared.Mirroring.{Mirroring}
-use Rattle.cartridge.specs.declared.Mirrors.{Mirrors}
-use Rattle.cartridge.specs.declared.Mirrors.the-variants.{AsBefore, As}
 use Rattle.cartridge.specs.declared.MapperType.{MapperType}
 use Rattle.cartridge.specs.declared.MapperType.the-variants.{Nrom, Mmc1, Uxrom, Cnrom, Mmc3}
 use Rattle.places.specs.Places.{storedPrg, storedChr}
-use Rattle.places.specs.declared.Place.{Place}
-use Rattle.places.specs.declared.Place.the-variants.{Prg, Chr, PrgRam, ChrRam, Zero, Refused}
+use Rattle.places.specs.Windows.{Window, landsIn}
+use Rattle.places.specs.declared.Landing.{Landing}
+use Rattle.places.specs.declared.Landing.the-variants.{At, Refused}
 use Rattle.nrom.specs.Nrom as nrom
 use Rattle.uxrom.specs.Uxrom as uxrom
 use Rattle.cnrom.specs.Cnrom as cnrom
 use Rattle.mmc1.specs.Read as mmc1
 use Rattle.mmc3.specs.Read as mmc3
 use Rattle.boards.specs.Registers.{moved}
-use Rattle.boards.specs.Range.{isLoaded, ramsFit, guarded}
+use Rattle.boards.specs.Range.{isLoaded, guarded}
 use Rattle.boards.specs.declared.Board.{Board}
 use Rattle.boards.specs.declared.Registers.{Registers}
 use Rattle.boards.specs.declared.Moved.{Moved}
@@ -30,17 +32,17 @@ use Rattle.boards.specs.declared.Written.{Written}
 use Rattle.boards.specs.declared.WriteAnswer.{WriteAnswer}
 use Rattle.boards.specs.declared.WriteAnswer.the-variants.{Quiet, Notice, Refused as NotWritten}
 
--- where the byte of a write lands, on each board
-unfoldable pub writePlaceOn : MapperType → Registers → Cartridge → ℕ → Place
-writePlaceOn Nrom r c a = nrom.writePlace c a
-writePlaceOn Mmc1 r c a = mmc1.writePlace (r .mmc1) c a
-writePlaceOn Uxrom r c a = uxrom.writePlace (r .uxrom) c a
-writePlaceOn Cnrom r c a = cnrom.writePlace (r .cnrom) c a
-writePlaceOn Mmc3 r c a = mmc3.writePlace (r .mmc3) c a
+-- what a write finds at an address, on each board
+unfoldable pub writeWindowOn : MapperType → Registers → Cartridge → ℕ → Window
+writeWindowOn Nrom r c a = nrom.writeWindow c a
+writeWindowOn Mmc1 r c a = mmc1.writeWindow (r .mmc1) c a
+writeWindowOn Uxrom r c a = uxrom.writeWindow (r .uxrom) c a
+writeWindowOn Cnrom r c a = cnrom.writeWindow (r .cnrom) c a
+writeWindowOn Mmc3 r c a = mmc3.writeWindow (r .mmc3) c a
 
--- of the mapper that the cartridge names
-unfoldable pub writePlace : Board → ℕ → Place
-writePlace b a = writePlaceOn (b .cart .mapper) (b .registers) (b .cart) a
+-- where it lands, on the board of the mapper that the cartridge names
+unfoldable pub writeLanding : Board → ℕ → Landing
+writeLanding b a = landsIn (b .cart) (writeWindowOn (b .cart .mapper) (b .registers) (b .cart) a) a
 
 -- house: "exactly when its mirroring differs from the header's, not from the last one sent"; board: "Notices compare with the current mirroring"
 unfoldable pub againstIn : Mode → Mirroring → Mirroring → Mirroring
@@ -83,27 +85,23 @@ unfoldable pub acceptedWrite : Board → ℕ → ℕ → Written
 acceptedWrite b v a = turned b (moved (b .cart .mapper) (b .cart .mode) (b .registers) v a)
 
 -- "A refusal yields its number only; the state and every lent buffer hold what they held"
-unfoldable pub writtenAs : Board → Place → ℕ → ℕ → Written
+unfoldable pub writtenAs : Board → Landing → ℕ → ℕ → Written
+writtenAs b (At p) v a = acceptedWrite b v a
 writtenAs b (Refused why) v a = record { board = b; answer = NotWritten why }
-writtenAs b (Prg i) v a = acceptedWrite b v a
-writtenAs b (Chr i) v a = acceptedWrite b v a
-writtenAs b (PrgRam i) v a = acceptedWrite b v a
-writtenAs b (ChrRam i) v a = acceptedWrite b v a
-writtenAs b Zero v a = acceptedWrite b v a
 
 -- where the byte of a write lands, or the refusal: 9, 10 unless the state may be served, then the board's own
-abbrev pub landingIf : Bool → Board → List ℕ → List ℕ → ℕ → Place
-landingIf state b prg chr a = guarded (ramsFit (length prg) (length chr)) state (writePlace b a)
+abbrev pub landingIf : Bool → Board → List ℕ → List ℕ → ℕ → Landing
+landingIf state b prg chr a = guarded (ramsFit (length prg) (length chr)) state (writeLanding b a)
 
 -- of a board that is in range and has this image
-unfoldable pub landing : Board → List ℕ → List ℕ → List ℕ → ℕ → Place
+unfoldable pub landing : Board → List ℕ → List ℕ → List ℕ → ℕ → Landing
 landing b image prg chr a = landingIf (isLoaded b (length image)) b prg chr a
 
 -- what a write that lands there owes its caller: the reply with the next board, and both RAMs
-pub record Writes (b : Board) (p : Place) (prg chr : List ℕ) (a v : ℕ) (r : Written) (prg′ chr′ : List ℕ) : Type 0 where
-  pub reply : r ≡ writtenAs b p v a
-  pub prg-ram : prg′ ≡ storedPrg p v prg
-  pub chr-ram : chr′ ≡ storedChr p v chr
+pub record Writes (b : Board) (l : Landing) (prg chr : List ℕ) (a v : ℕ) (r : Written) (prg′ chr′ : List ℕ) : Type 0 where
+  pub reply : r ≡ writtenAs b l v a
+  pub prg-ram : prg′ ≡ storedPrg l v prg
+  pub chr-ram : chr′ ≡ storedChr l v chr
 
 -- where the state has been judged
 abbrev pub WritesIf : Bool → Board → List ℕ → List ℕ → ℕ → ℕ → Written → List ℕ → List ℕ → Type 0

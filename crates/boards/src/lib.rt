@@ -1,23 +1,24 @@
-// The board of any of the five mappers, and the four public calls: load, read, write, clock.
+// The board of any of the five mappers, and its public calls: load, read, write, clock, and play, which is any of the last three.
 // Ported from potatis nes/src/mappers/mod.rs, which chooses the board.
 ghost use mathlib.Core.Path.{_≡_};
-ghost use Rattle.places.specs.Places.{byteOf};
-ghost use Rattle.boards.specs.Registers.{withUxrom, withCnrom, withMmc1, withMmc3, mmc1Start, start, partFits, fits, asking, moved, ticked};
+ghost use Rattle.places.specs.Places.{byteAt};
+ghost use Rattle.boards.specs.Registers.{mmc1Start, start, partFits, fits, asking, moved, ticked};
 ghost use Rattle.boards.specs.Start.{startOf, nothing, loadedBoard, LoadOwes};
-ghost use Rattle.boards.specs.Range.{turnedFit, screensFit, screensKept, inRange, isLoaded, ramsFit, guarded};
-ghost use Rattle.boards.specs.Read.{readPlace, readIf, read};
-ghost use Rattle.boards.specs.Write.{writePlace, against, nextMirroring, noticeUnless, notice, turned, acceptedWrite, writtenAs, WritesIf, WriteOwes};
+ghost use Rattle.boards.specs.Range.{turnedFit, screensFit, screensKept, inRange, isLoaded, guarded};
+ghost use Rattle.boards.specs.Read.{readLanding, readIf, read};
+ghost use Rattle.boards.specs.Write.{writeLanding, against, nextMirroring, noticeUnless, notice, turned, acceptedWrite, writtenAs, WritesIf, WriteOwes};
 ghost use Rattle.boards.specs.Clock.{yesNo, acceptedClock, clockIf, clock};
+ghost use Rattle.boards.specs.Runs.{lent, moment, PlayOwes};
 use cartridge::Cartridge;
 use cartridge::MapperType;
-use cartridge::Mirroring;
-use cartridge::Mirrors;
-use cartridge::Refusal;
 use cnrom::Cnrom;
+use common::Mirroring;
+use common::Mirrors;
 use common::Mode;
+use common::Refusal;
 use mmc1::Mmc1;
 use mmc3::Mmc3;
-use places::Place;
+use places::Landing;
 use places::ReadAnswer;
 use uxrom::Uxrom;
 
@@ -80,6 +81,24 @@ pub struct Clocked {
     pub answer: ClockAnswer,
 }
 
+// The three calls of a loaded board as one type, their answers, and what a call gives with its answer: the next board.
+pub enum Event {
+    Read(u16),
+    Write(u16, u8),
+    Clock,
+}
+
+pub enum Answer {
+    Read(ReadAnswer),
+    Write(WriteAnswer),
+    Clock(ClockAnswer),
+}
+
+pub struct Played {
+    pub board: Board,
+    pub answer: Answer,
+}
+
 fn mmc1_start(mapper: MapperType) -> Mmc1
     ensures { λ r. ⌜ r ≡ mmc1Start mapper ⌝ }
 {
@@ -108,34 +127,6 @@ impl Registers {
         }
     }
 
-    pub fn with_uxrom(mut self, uxrom: Uxrom) -> Self
-        ensures { λ r. ⌜ r ≡ withUxrom self uxrom ⌝ }
-    {
-        self.uxrom = uxrom;
-        self
-    }
-
-    pub fn with_cnrom(mut self, cnrom: Cnrom) -> Self
-        ensures { λ r. ⌜ r ≡ withCnrom self cnrom ⌝ }
-    {
-        self.cnrom = cnrom;
-        self
-    }
-
-    pub fn with_mmc1(mut self, mmc1: Mmc1) -> Self
-        ensures { λ r. ⌜ r ≡ withMmc1 self mmc1 ⌝ }
-    {
-        self.mmc1 = mmc1;
-        self
-    }
-
-    pub fn with_mmc3(mut self, mmc3: Mmc3) -> Self
-        ensures { λ r. ⌜ r ≡ withMmc3 self mmc3 ⌝ }
-    {
-        self.mmc3 = mmc3;
-        self
-    }
-
     // Each part is in its range where it is this board's, else at its start.
     pub fn fits(self, mapper: MapperType) -> bool
         ensures { λ r. ⌜ r ≡ fits mapper self ⌝ }
@@ -159,7 +150,7 @@ impl Registers {
         }
     }
 
-    pub fn moved(self, mapper: MapperType, mode: Mode, value: u8, address: u16) -> Moved
+    pub fn moved(mut self, mapper: MapperType, mode: Mode, value: u8, address: u16) -> Moved
         ensures { λ r. ⌜ r ≡ moved mapper mode self value address ⌝ }
     {
         let uxrom = self.uxrom;
@@ -170,36 +161,47 @@ impl Registers {
             MapperType::Nrom => self.asking(Mirrors::AsBefore),
             MapperType::Mmc1 => {
                 let wrote = mmc1.write8(mode, value, address);
+                let next = wrote.mmc1;
                 let mirrors = wrote.mirrors;
-                self.with_mmc1(wrote.mmc1).asking(mirrors)
+                self.mmc1 = next;
+                self.asking(mirrors)
             }
-            MapperType::Uxrom => self.with_uxrom(uxrom.write8(value, address))
-                .asking(Mirrors::AsBefore),
-            MapperType::Cnrom => self.with_cnrom(cnrom.write8(value, address))
-                .asking(Mirrors::AsBefore),
+            MapperType::Uxrom => {
+                let next = uxrom.write8(value, address);
+                self.uxrom = next;
+                self.asking(Mirrors::AsBefore)
+            }
+            MapperType::Cnrom => {
+                let next = cnrom.write8(value, address);
+                self.cnrom = next;
+                self.asking(Mirrors::AsBefore)
+            }
             MapperType::Mmc3 => {
                 let wrote = mmc3.write8(value, address);
+                let next = wrote.mmc3;
                 let mirrors = wrote.mirrors;
-                self.with_mmc3(wrote.mmc3).asking(mirrors)
+                self.mmc3 = next;
+                self.asking(mirrors)
             }
         }
     }
 
-    pub fn ticked(self, mapper: MapperType, mode: Mode) -> Ticked
+    pub fn ticked(mut self, mapper: MapperType, mode: Mode) -> Ticked
         ensures { λ r. ⌜ r ≡ ticked mapper mode self ⌝ }
     {
         let mmc3 = self.mmc3;
         if mapper.is(MapperType::Mmc3) {
             let clocked = mmc3.clock(mode);
-            Ticked {
-                registers: self.with_mmc3(clocked.mmc3),
-                yes: clocked.answer,
-            }
-        } else {
-            Ticked {
+            let next = clocked.mmc3;
+            self.mmc3 = next;
+            return Ticked {
                 registers: self,
-                yes: false,
-            }
+                yes: clocked.answer,
+            };
+        }
+        Ticked {
+            registers: self,
+            yes: false,
         }
     }
 }
@@ -253,25 +255,18 @@ pub fn load(image: &[u8], mode: Mode, prg: &mut [u8], chr: &mut [u8]) -> Loaded
     loaded_board(Cartridge::load(image, mode, prg, chr))
 }
 
-// Both RAMs are lent whole, used or not.
-pub fn rams_fit(prg: usize, chr: usize) -> bool
-    ensures { λ r. ⌜ r ≡ ramsFit prg chr ⌝ }
-{
-    (prg == 8192) & (chr == 8192)
-}
-
-// The place, unless the call is refused first: 9, then 10.
-fn guarded(rams: bool, state: bool, place: Place) -> Place
-    ensures { λ r. ⌜ r ≡ guarded rams state place ⌝ }
+// Where it lands, unless the call is refused first: 9, then 10.
+fn guarded(rams: bool, state: bool, landing: Landing) -> Landing
+    ensures { λ r. ⌜ r ≡ guarded rams state landing ⌝ }
 {
     if rams {
         if state {
-            place
+            landing
         } else {
-            Place::Refused(Refusal::StateOutOfRange)
+            Landing::Refused(Refusal::StateOutOfRange)
         }
     } else {
-        Place::Refused(Refusal::RamNot8K)
+        Landing::Refused(Refusal::RamNot8K)
     }
 }
 
@@ -316,7 +311,8 @@ fn yes_no(yes: bool) -> ClockAnswer
     }
 }
 
-fn turned_fit(mapper: MapperType, same: bool, headers: bool) -> bool
+// What the real board may have as its current mirroring.
+pub fn turned_fit(mapper: MapperType, same: bool, headers: bool) -> bool
     ensures { λ r. ⌜ r ≡ turnedFit mapper same headers ⌝ }
 {
     if mapper.is(MapperType::Mmc1) {
@@ -367,8 +363,8 @@ impl Board {
         self.in_range() & (length == cart.length)
     }
 
-    fn read_place(self, address: u16) -> Place
-        ensures { λ r. ⌜ r ≡ readPlace self address ⌝ }
+    fn read_landing(self, address: u16) -> Landing
+        ensures { λ r. ⌜ r ≡ readLanding self address ⌝ }
     {
         let cart = self.cart;
         let mapper = cart.mapper;
@@ -378,16 +374,16 @@ impl Board {
         let mmc1 = registers.mmc1;
         let mmc3 = registers.mmc3;
         match mapper {
-            MapperType::Nrom => nrom::read_place(cart, address),
-            MapperType::Mmc1 => mmc1.read_place(cart, address),
-            MapperType::Uxrom => uxrom.read_place(cart, address),
-            MapperType::Cnrom => cnrom.read_place(cart, address),
-            MapperType::Mmc3 => mmc3.read_place(cart, address),
+            MapperType::Nrom => nrom::read_landing(cart, address),
+            MapperType::Mmc1 => mmc1.read_landing(cart, address),
+            MapperType::Uxrom => uxrom.read_landing(cart, address),
+            MapperType::Cnrom => cnrom.read_landing(cart, address),
+            MapperType::Mmc3 => mmc3.read_landing(cart, address),
         }
     }
 
-    fn write_place(self, address: u16) -> Place
-        ensures { λ r. ⌜ r ≡ writePlace self address ⌝ }
+    fn write_landing(self, address: u16) -> Landing
+        ensures { λ r. ⌜ r ≡ writeLanding self address ⌝ }
     {
         let cart = self.cart;
         let mapper = cart.mapper;
@@ -397,18 +393,25 @@ impl Board {
         let mmc1 = registers.mmc1;
         let mmc3 = registers.mmc3;
         match mapper {
-            MapperType::Nrom => nrom::write_place(cart, address),
-            MapperType::Mmc1 => mmc1.write_place(cart, address),
-            MapperType::Uxrom => uxrom.write_place(cart, address),
-            MapperType::Cnrom => cnrom.write_place(cart, address),
-            MapperType::Mmc3 => mmc3.write_place(cart, address),
+            MapperType::Nrom => nrom::write_landing(cart, address),
+            MapperType::Mmc1 => mmc1.write_landing(cart, address),
+            MapperType::Uxrom => uxrom.write_landing(cart, address),
+            MapperType::Cnrom => cnrom.write_landing(cart, address),
+            MapperType::Mmc3 => mmc3.write_landing(cart, address),
         }
     }
 
     // MMC1 reads from the bank itself, which is a part of the lent image.
-    fn byte<'a>(self, place: Place, image: &'a [u8], prg: &[u8], chr: &'a [u8], address: u16) -> u8
-        requires { ⌜ place ≡ readPlace self address ⌝ }
-        ensures { λ r. ⌜ r ≡ byteOf (self .cart) (readPlace self address) (now (image .entry)) (now (prg .entry)) (now (chr .entry)) ⌝ }
+    fn byte<'a>(
+        self,
+        landing: Landing,
+        image: &'a [u8],
+        prg: &[u8],
+        chr: &'a [u8],
+        address: u16,
+    ) -> u8
+        requires { ⌜ landing ≡ readLanding self address ⌝ }
+        ensures { λ r. ⌜ r ≡ byteAt (self .cart) (readLanding self address) (now (image .entry)) (now (prg .entry)) (now (chr .entry)) ⌝ }
     {
         let cart = self.cart;
         let mapper = cart.mapper;
@@ -417,7 +420,7 @@ impl Board {
         if mapper.is(MapperType::Mmc1) {
             return mmc1.read8(cart, image, prg, chr, address);
         }
-        places::byte_of(cart, place, image, prg, chr)
+        places::byte_at(cart, landing, image, prg, chr)
     }
 
     // What a notice compares with: the header's in house mode, the current one in board mode.
@@ -461,15 +464,15 @@ impl Board {
     }
 
     // A refused write hands the board back as it came.
-    fn written_as(self, place: Place, value: u8, address: u16) -> Written
-        ensures { λ r. ⌜ r ≡ writtenAs self place value address ⌝ }
+    fn written_as(self, landing: Landing, value: u8, address: u16) -> Written
+        ensures { λ r. ⌜ r ≡ writtenAs self landing value address ⌝ }
     {
-        match place {
-            Place::Refused(why) => Written {
+        match landing {
+            Landing::At(_) => self.accepted_write(value, address),
+            Landing::Refused(why) => Written {
                 board: self,
                 answer: WriteAnswer::Refused(why),
             },
-            _ => self.accepted_write(value, address),
         }
     }
 
@@ -513,9 +516,10 @@ impl Board {
     ) -> ReadAnswer
         ensures { λ r. ⌜ r ≡ readIf fits self (now (image .entry)) (now (prg .entry)) (now (chr .entry)) address ⌝ }
     {
-        let place = self.read_place(address);
-        let byte = self.byte(place, image, prg, chr, address);
-        places::answer_at(guarded(rams_fit(prg.len(), chr.len()), fits, place), byte)
+        let landing = self.read_landing(address);
+        let byte = self.byte(landing, image, prg, chr, address);
+        let rams = cartridge::rams_fit(prg.len(), chr.len());
+        places::answer_at(guarded(rams, fits, landing), byte)
     }
 
     pub fn write_if(
@@ -528,13 +532,10 @@ impl Board {
     ) -> Written
         ensures { λ r. ⌜ WritesIf fits self (now (prg .entry)) (now (chr .entry)) address value r (now (prg .exit)) (now (chr .exit)) ⌝ }
     {
-        let place = guarded(
-            rams_fit(prg.len(), chr.len()),
-            fits,
-            self.write_place(address),
-        );
-        places::store(place, prg, chr, value);
-        self.written_as(place, value, address)
+        let rams = cartridge::rams_fit(prg.len(), chr.len());
+        let landing = guarded(rams, fits, self.write_landing(address));
+        places::store(landing, prg, chr, value);
+        self.written_as(landing, value, address)
     }
 
     // The public calls: each judges the state, then serves it.
@@ -561,5 +562,39 @@ impl Board {
         ensures { λ r. ⌜ WriteOwes self (now (image .entry)) (now (prg .entry)) (now (chr .entry)) address value r (now (prg .exit)) (now (chr .exit)) ⌝ }
     {
         self.write_if(self.is_loaded(image.len()), prg, chr, address, value)
+    }
+
+    // Any of the three calls above, as a run makes one after another.
+    pub fn play(self, event: Event, image: &[u8], prg: &mut [u8], chr: &mut [u8]) -> Played
+        ensures { λ r. ⌜ PlayOwes (moment self (lent (now (image .entry)) (now (prg .entry)) (now (chr .entry)))) event r (now (prg .exit)) (now (chr .exit)) ⌝ }
+    {
+        match event {
+            Event::Read(address) => {
+                let answer = self.read(image, prg, chr, address);
+                let board = self;
+                Played {
+                    board,
+                    answer: Answer::Read(answer),
+                }
+            }
+            Event::Write(address, value) => {
+                let written = self.write(image, prg, chr, address, value);
+                let board = written.board;
+                let answer = written.answer;
+                Played {
+                    board,
+                    answer: Answer::Write(answer),
+                }
+            }
+            Event::Clock => {
+                let clocked = self.clock();
+                let board = clocked.board;
+                let answer = clocked.answer;
+                Played {
+                    board,
+                    answer: Answer::Clock(answer),
+                }
+            }
+        }
     }
 }

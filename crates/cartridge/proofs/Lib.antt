@@ -1,2 +1,2 @@
 pub mod Mappers
-mod OneBit
+pub mod OneBit

@@ -2,8 +2,7 @@
 use mathlib.Core.Path.{_≡_, refl, sym, ap, _∙_}
 use mathlib.Core.Bool.{true}
 use borrow.Author.Tests.{eqb-true, eq-eqb}
-use Rattle.cartridge.specs.Answers.{mapperNumber, isMapper}
-use Rattle.cartridge.specs.Load.{mapperType}
+use Rattle.cartridge.specs.Mappers.{mapperNumber, isMapper, mapperType}
 use Rattle.cartridge.specs.declared.MapperType.{MapperType}
 use Rattle.cartridge.specs.declared.MapperType.the-variants.{Nrom, Mmc1, Uxrom, Cnrom, Mmc3}
 

@@ -7,13 +7,14 @@ use native.Mathlib.Omega.{arith}
 use borrow.Author.Tests.{ltb-true, eqb-true, eqb-false}
 use lib.Count.{ones, onesIn, ones-step}
 use lib.Dec.{ltb, leb, eqb}
+use Rattle.rules.proofs.Bools.{and-left, and-right}
+use Rattle.common.specs.Answers.{isHeaders}
 use Rattle.common.specs.declared.Mode.{Mode}
 use Rattle.common.specs.declared.Mode.the-variants.{House, Board}
-use Rattle.rules.proofs.Bools.{and-left, and-right}
-use Rattle.cartridge.specs.Answers.{mapperNumber}
-use Rattle.cartridge.specs.Load.{isPower, oddCounts, badPrg, needed, isHeaders, couldLoad}
-use Rattle.cartridge.specs.declared.Cartridge.{Cartridge}
+use Rattle.cartridge.specs.Load.{isPower, oddCounts, badPrg, needed, couldLoad}
 use Rattle.cartridge.specs.Steps.{hasOneBit, oddBits}
+use Rattle.cartridge.specs.Mappers.{mapperNumber}
+use Rattle.cartridge.specs.declared.Cartridge.{Cartridge}
 
 bits : (k n : ℕ) → n < 2 ^ k → ones n ≡ onesIn k n
 unfolding ones onesIn

@@ -5,13 +5,13 @@ use mathlib.Core.List.{List}
 use lib.Dec.{ltb, eqb}
 use lib.ListN.{length}
 use Rattle.common.specs.Common.{KB8, KB16}
+use Rattle.common.specs.declared.Refusal.the-variants.{HeaderTooShort, HeaderNotInes}
+use Rattle.common.specs.declared.Mirroring.{Mirroring}
+use Rattle.common.specs.declared.Mirroring.the-variants.{Horizontal, Vertical}
 use Rattle.memory.specs.Memory.{byte}
 use Rattle.cartridge.specs.declared.Header.{Header}
 use Rattle.cartridge.specs.declared.HeaderAnswer.{HeaderAnswer}
 use Rattle.cartridge.specs.declared.HeaderAnswer.the-variants.{Read, Refused}
-use Rattle.cartridge.specs.declared.Refusal.the-variants.{HeaderTooShort, HeaderNotInes}
-use Rattle.cartridge.specs.declared.Mirroring.{Mirroring}
-use Rattle.cartridge.specs.declared.Mirroring.the-variants.{Horizontal, Vertical}
 
 -- refusals 2 and 3: "bytes 0-3 are not 4E 45 53 1A"
 unfoldable pub isInes : List ℕ → Bool

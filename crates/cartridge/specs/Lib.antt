@@ -1,4 +1,4 @@
-pub mod Answers
+pub mod Mappers
 pub mod Header
 pub mod Load
 pub mod Steps

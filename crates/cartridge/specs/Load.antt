@@ -1,23 +1,20 @@
 -- The load: what it accepts, in the order of its refusals, and what it leaves.
 use Prim.Native.Nat.{ℕ, _+_, _-_, _*_}
 use mathlib.Core.Path.{_≡_}
-use mathlib.Core.Bool.{Bool, true, false, cond, not, _&&_, _||_}
+use mathlib.Core.Bool.{Bool, false, cond, not, _&&_, _||_}
 use mathlib.Core.List.{List}
 use lib.Dec.{ltb, leb, eqb}
 use lib.ListN.{length, replicate}
 use Rattle.common.specs.Common.{KB8, KB16}
+use Rattle.common.specs.Answers.{isHeaders}
 use Rattle.common.specs.declared.Mode.{Mode}
 use Rattle.common.specs.declared.Mode.the-variants.{House, Board}
+use Rattle.common.specs.declared.Refusal.the-variants.{ImageNotInes, MapperNotTaken, TrainerOrFourScreen, PrgCountNotTaken, ImageTooShort, CountNoPowerOfTwo, RamNot8K}
 use Rattle.memory.specs.Memory.{tail}
-use Rattle.cartridge.specs.Answers.{mapperNumber}
 use Rattle.cartridge.specs.Header.{isInes, headerOf, mapperOf, mirroringOf, isNes2, isSpecial}
+use Rattle.cartridge.specs.Mappers.{mapperNumber, mapperType}
 use Rattle.cartridge.specs.declared.Header.{Header}
 use Rattle.cartridge.specs.declared.Cartridge.{Cartridge}
-use Rattle.cartridge.specs.declared.Refusal.the-variants.{ImageNotInes, MapperNotTaken, TrainerOrFourScreen, PrgCountNotTaken, ImageTooShort, CountNoPowerOfTwo, RamNot8K}
-use Rattle.cartridge.specs.declared.Mirroring.{Mirroring}
-use Rattle.cartridge.specs.declared.Mirroring.the-variants.{Horizontal, Vertical, SingleScreenUpper, SingleScreenLower}
-use Rattle.cartridge.specs.declared.MapperType.{MapperType}
-use Rattle.cartridge.specs.declared.MapperType.the-variants.{Nrom, Mmc1, Uxrom, Cnrom, Mmc3}
 use Rattle.cartridge.specs.declared.Verdict.{Verdict}
 use Rattle.cartridge.specs.declared.Verdict.the-variants.{Take, Refuse}
 use Rattle.cartridge.specs.declared.Loaded.{Loaded}
@@ -64,12 +61,12 @@ verdictOn h ines len mode rams =
     (oddCounts mode (h .prg) (h .chr))
 
 -- refusal 9: "a lent RAM is not exactly 8,192 bytes"
-unfoldable pub verdict : List ℕ → Mode → ℕ → ℕ → Verdict
-verdict s mode prg chr = verdictOn (headerOf s) (isInes s) (length s) mode (eqb prg 8192 && eqb chr 8192)
+unfoldable pub ramsFit : ℕ → ℕ → Bool
+ramsFit prg chr = eqb prg 8192 && eqb chr 8192
 
--- the board of a mapper number up to 4
-unfoldable pub mapperType : ℕ → MapperType
-mapperType n = cond (eqb n 0) Nrom (cond (eqb n 1) Mmc1 (cond (eqb n 2) Uxrom (cond (eqb n 3) Cnrom Mmc3)))
+-- of an image, a mode and the lengths of the RAMs
+unfoldable pub verdict : List ℕ → Mode → ℕ → ℕ → Verdict
+verdict s mode prg chr = verdictOn (headerOf s) (isInes s) (length s) mode (ramsFit prg chr)
 
 -- what an accepted load keeps of the image
 unfoldable pub cartridgeOf : Header → Mode → ℕ → Cartridge
@@ -123,13 +120,6 @@ prgRom image = tail image 16
 -- "CHR follows it"
 unfoldable pub chrRom : Cartridge → List ℕ → List ℕ
 chrRom c image = tail image (16 + prgTotal c)
-
--- the mirrorings that byte 6 can ask for
-abbrev pub isHeaders : Mirroring → Bool
-isHeaders Horizontal = true
-isHeaders Vertical = true
-isHeaders SingleScreenUpper = false
-isHeaders SingleScreenLower = false
 
 -- CHR RAM where there is any, else the CHR data of the image
 unfoldable pub chrData : Cartridge → List ℕ → List ℕ → List ℕ

@@ -1,4 +1,4 @@
--- What the code tests in place of a definition; nothing public cites it, and `OneBit` of proofs/ joins the two.
+-- What the code tests in place of a definition; `OneBit` of proofs/ joins the two.
 use Prim.Native.Nat.{ℕ}
 use mathlib.Core.Bool.{Bool, false, not, _&&_, _||_}
 use lib.Count.{ones}

@@ -2,11 +2,13 @@
 ghost use mathlib.Core.Path.{_≡_};
 ghost use Prim.Native.Nat.{_+_, _*_};
 ghost use lib.ListN.{length};
-ghost use Rattle.cartridge.specs.Answers.{refusalNumber, mirroringLetter, same, mapperNumber, isMapper};
+ghost use Rattle.cartridge.specs.Mappers.{mapperNumber, isMapper, mapperType};
 ghost use Rattle.cartridge.specs.Header.{isInes, headerOf, headerAnswer, headerRead, totalSize, mapperOf, mirroringOf, isNes2, isSpecial};
-ghost use Rattle.cartridge.specs.Load.{isPower, oddCounts, badPrg, needed, firstOf, verdictOn, verdict, mapperType, cartridgeOf, loadedAs, ramAfter, LoadOwes, prgTotal, hasChrRam, chrTotal, prgRom, chrRom, chrData, lastPrg, couldLoad, isHeaders};
+ghost use Rattle.cartridge.specs.Load.{isPower, oddCounts, badPrg, needed, firstOf, verdictOn, ramsFit, verdict, cartridgeOf, loadedAs, ramAfter, LoadOwes, prgTotal, hasChrRam, chrTotal, prgRom, chrRom, chrData, lastPrg, couldLoad};
 ghost use Rattle.cartridge.specs.Steps.{hasOneBit, oddBits};
+use common::Mirroring;
 use common::Mode;
+use common::Refusal;
 use common::kilobytes;
 use memory::byte_at;
 
@@ -15,49 +17,6 @@ pub const HEADER_SIZE: u32 = 16;
 const PRG_ROM_BLOCK_SIZE: u32 = kilobytes::KB16;
 
 const CHR_ROM_BLOCK_SIZE: u32 = kilobytes::KB8;
-
-// What is wrong with an image, a call or a trace. Each has its number in the paper.
-pub enum Refusal {
-    HeaderTooShort,
-    HeaderNotInes,
-    ImageNotInes,
-    MapperNotTaken,
-    TrainerOrFourScreen,
-    PrgCountNotTaken,
-    ImageTooShort,
-    CountNoPowerOfTwo,
-    RamNot8K,
-    StateOutOfRange,
-    BankPastData,
-    NoChrRam,
-    NoSuchPlace,
-    IrqPending,
-    TraceMalformed,
-}
-
-impl Refusal {
-    pub fn number(self) -> u8
-        ensures { λ r. ⌜ r ≡ refusalNumber self ⌝ }
-    {
-        match self {
-            Refusal::HeaderTooShort => 1,
-            Refusal::HeaderNotInes => 2,
-            Refusal::ImageNotInes => 3,
-            Refusal::MapperNotTaken => 4,
-            Refusal::TrainerOrFourScreen => 5,
-            Refusal::PrgCountNotTaken => 6,
-            Refusal::ImageTooShort => 7,
-            Refusal::CountNoPowerOfTwo => 8,
-            Refusal::RamNot8K => 9,
-            Refusal::StateOutOfRange => 10,
-            Refusal::BankPastData => 11,
-            Refusal::NoChrRam => 12,
-            Refusal::NoSuchPlace => 13,
-            Refusal::IrqPending => 14,
-            Refusal::TraceMalformed => 15,
-        }
-    }
-}
 
 // Bytes 4 to 15 as they stand; byte 4 counts PRG blocks, byte 5 CHR blocks.
 pub struct Header {
@@ -207,52 +166,6 @@ impl MapperType {
             MapperType::Cnrom
         } else {
             MapperType::Mmc3
-        }
-    }
-}
-
-// The Rust has a fifth, HardwiredFourScreen, which is never answered: such an image is refused first.
-pub enum Mirroring {
-    Horizontal,
-    Vertical,
-    SingleScreenUpper,
-    SingleScreenLower,
-}
-
-// What a write asks of the screens.
-pub enum Mirrors {
-    AsBefore,
-    As(Mirroring),
-}
-
-impl Mirroring {
-    // As a trace prints it.
-    pub fn letter(self) -> u8
-        ensures { λ r. ⌜ r ≡ mirroringLetter self ⌝ }
-    {
-        match self {
-            Mirroring::Horizontal => b'H',
-            Mirroring::Vertical => b'V',
-            Mirroring::SingleScreenUpper => b'U',
-            Mirroring::SingleScreenLower => b'L',
-        }
-    }
-
-    pub fn same(self, other: Mirroring) -> bool
-        ensures { λ r. ⌜ r ≡ same self other ⌝ }
-    {
-        self.letter() == other.letter()
-    }
-
-    // One that a header can ask for.
-    pub fn is_headers(self) -> bool
-        ensures { λ r. ⌜ r ≡ isHeaders self ⌝ }
-    {
-        match self {
-            Mirroring::Horizontal => true,
-            Mirroring::Vertical => true,
-            Mirroring::SingleScreenUpper => false,
-            Mirroring::SingleScreenLower => false,
         }
     }
 }
@@ -452,6 +365,13 @@ fn verdict_on(h: Header, ines: bool, len: usize, mode: Mode, rams: bool) -> Verd
     )
 }
 
+// Refusal 9. Both RAMs are lent whole, used or not.
+pub fn rams_fit(prg: usize, chr: usize) -> bool
+    ensures { λ r. ⌜ r ≡ ramsFit prg chr ⌝ }
+{
+    (prg == 8192) & (chr == 8192)
+}
+
 fn judge(image: &[u8], mode: Mode, prg: usize, chr: usize) -> Verdict
     ensures { λ r. ⌜ r ≡ verdict (now (image .entry)) mode prg chr ⌝ }
 {
@@ -460,7 +380,7 @@ fn judge(image: &[u8], mode: Mode, prg: usize, chr: usize) -> Verdict
         is_ines(image),
         image.len(),
         mode,
-        (prg == 8192) & (chr == 8192),
+        rams_fit(prg, chr),
     )
 }
 

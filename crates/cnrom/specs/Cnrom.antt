@@ -1,16 +1,13 @@
--- CNROM: where a read and a write land, and what a write leaves.
+-- CNROM: what a read and a write find at an address, and what a write leaves.
 use Prim.Native.Nat.{ℕ, _%_}
 use mathlib.Core.Bool.{Bool, cond}
 use lib.Dec.{ltb, eqb}
-use Rattle.common.specs.Common.{KB8}
 use Rattle.common.specs.declared.Mode.{Mode}
 use Rattle.common.specs.declared.Mode.the-variants.{House, Board}
+use Rattle.common.specs.declared.Refusal.the-variants.{NoSuchPlace}
 use Rattle.cartridge.specs.declared.Cartridge.{Cartridge}
-use Rattle.cartridge.specs.declared.Refusal.the-variants.{NoSuchPlace}
-use Rattle.places.specs.Places.{chrPlace}
-use Rattle.places.specs.declared.Place.{Place}
-use Rattle.places.specs.declared.Place.the-variants.{PrgRam, Zero, Refused}
-use Rattle.nrom.specs.Nrom.{fixedPrg}
+use Rattle.places.specs.Windows.{Window, fixedPrg}
+use Rattle.places.specs.Windows.Window.{Chr8K, PrgRam, Nothing, Refused}
 use Rattle.cnrom.specs.declared.Cnrom.{Cnrom}
 
 -- "Registers start at 0"
@@ -26,41 +23,41 @@ abbrev pub fits : Cnrom → Bool
 fits u = ltb (u .bank) 4
 
 -- house: "Two PRG blocks fill 8000-FFFF; one fills C000-FFFF only"; refusal 13: "a read of 8000-BFFF with one PRG block"
-unfoldable pub housePrg : Cartridge → ℕ → Place
+unfoldable pub housePrg : Cartridge → ℕ → Window
 housePrg c a = cond (eqb (c .prg) 1) (cond (ltb a 0xC000) (Refused NoSuchPlace) (fixedPrg c a)) (fixedPrg c a)
 
 -- house: "PPU reads CHR in 8 KB bank"; refusal 13: "2000-7FFF"
-unfoldable pub houseReadPlace : Cnrom → Cartridge → ℕ → Place
-houseReadPlace u c a =
-    cond (ltb a 0x2000) (chrPlace c KB8 (u .bank) a)
+unfoldable pub houseReadWindow : Cnrom → Cartridge → ℕ → Window
+houseReadWindow u c a =
+    cond (ltb a 0x2000) (Chr8K (u .bank))
     (cond (ltb a 0x8000) (Refused NoSuchPlace)
     (housePrg c a))
 
 -- board: "one PRG block shows twice; 2000-7FFF reads 0"
-unfoldable pub boardReadPlace : Cnrom → Cartridge → ℕ → Place
-boardReadPlace u c a = cond (ltb a 0x2000) (chrPlace c KB8 (u .bank) a) (fixedPrg c a)
+unfoldable pub boardReadWindow : Cnrom → Cartridge → ℕ → Window
+boardReadWindow u c a = cond (ltb a 0x2000) (Chr8K (u .bank)) (fixedPrg c a)
 
--- where a read lands in each mode
-unfoldable pub readPlaceIn : Mode → Cnrom → Cartridge → ℕ → Place
-readPlaceIn House u c a = houseReadPlace u c a
-readPlaceIn Board u c a = boardReadPlace u c a
+-- what a read finds in each mode
+unfoldable pub readWindowIn : Mode → Cnrom → Cartridge → ℕ → Window
+readWindowIn House u c a = houseReadWindow u c a
+readWindowIn Board u c a = boardReadWindow u c a
 
 -- in the mode that the cartridge has
-abbrev pub readPlace : Cnrom → Cartridge → ℕ → Place
-readPlace u c a = readPlaceIn (c .mode) u c a
+abbrev pub readWindow : Cnrom → Cartridge → ℕ → Window
+readWindow u c a = readWindowIn (c .mode) u c a
 
 -- house: "PPU writes land in PRG RAM at the same number"; refusal 13: "2000-7FFF"
-unfoldable pub houseWritePlace : ℕ → Place
-houseWritePlace a = cond (ltb a 0x2000) (PrgRam a) (cond (ltb a 0x8000) (Refused NoSuchPlace) Zero)
+unfoldable pub houseWriteWindow : ℕ → Window
+houseWriteWindow a = cond (ltb a 0x2000) PrgRam (cond (ltb a 0x8000) (Refused NoSuchPlace) Nothing)
 
 -- board: "CHR RAM is read and written through the banks, on all boards"; "2000-7FFF .. ignores writes"
-unfoldable pub writePlaceIn : Mode → Cnrom → Cartridge → ℕ → Place
-writePlaceIn House u c a = houseWritePlace a
-writePlaceIn Board u c a = boardReadPlace u c a
+unfoldable pub writeWindowIn : Mode → Cnrom → Cartridge → ℕ → Window
+writeWindowIn House u c a = houseWriteWindow a
+writeWindowIn Board u c a = boardReadWindow u c a
 
 -- in the mode that the cartridge has
-abbrev pub writePlace : Cnrom → Cartridge → ℕ → Place
-writePlace u c a = writePlaceIn (c .mode) u c a
+abbrev pub writeWindow : Cnrom → Cartridge → ℕ → Window
+writeWindow u c a = writeWindowIn (c .mode) u c a
 
 -- "the low two bits of the last write to 8000-FFFF"
 unfoldable pub written : Cnrom → ℕ → ℕ → Cnrom

@@ -1,10 +1,12 @@
 // CNROM: one 8 KB CHR bank register. Ported from potatis nes/src/mappers/cnrom.rs.
 ghost use mathlib.Core.Path.{_≡_};
-ghost use Rattle.cnrom.specs.Cnrom.{start, isStart, fits, housePrg, houseReadPlace, boardReadPlace, readPlace, houseWritePlace, writePlace, written};
+ghost use Rattle.places.specs.Windows.{landsIn};
+ghost use Rattle.cnrom.specs.Cnrom.{start, isStart, fits, housePrg, houseReadWindow, boardReadWindow, readWindow, houseWriteWindow, writeWindow, written};
 use banks::Bank8K;
 use cartridge::Cartridge;
-use cartridge::Refusal;
 use common::Mode;
+use common::Refusal;
+use places::Landing;
 use places::Place;
 
 pub struct Cnrom {
@@ -12,27 +14,27 @@ pub struct Cnrom {
 }
 
 // With one PRG block the Rust's index underflows below C000.
-fn house_prg(cart: Cartridge, address: u16) -> Place
-    ensures { λ r. ⌜ r ≡ housePrg cart address ⌝ }
+fn house_prg(cart: Cartridge, address: u16) -> Landing
+    ensures { λ r. ⌜ r ≡ landsIn cart (housePrg cart address) address ⌝ }
 {
     if cart.prg == 1 {
         match address {
-            0x0000..=0xbfff => Place::Refused(Refusal::NoSuchPlace),
-            _ => nrom::fixed_prg(cart, address),
+            0x0000..=0xbfff => Landing::Refused(Refusal::NoSuchPlace),
+            _ => places::fixed_prg(cart, address),
         }
     } else {
-        nrom::fixed_prg(cart, address)
+        places::fixed_prg(cart, address)
     }
 }
 
 // The Rust's catch-all: PRG RAM at the number of the address, which panics past its end.
-fn house_write_place(address: u16) -> Place
-    ensures { λ r. ⌜ r ≡ houseWritePlace address ⌝ }
+fn house_write_landing(cart: Cartridge, address: u16) -> Landing
+    ensures { λ r. ⌜ r ≡ landsIn cart (houseWriteWindow address) address ⌝ }
 {
     match address {
-        0x0000..=0x1fff => Place::PrgRam(address as usize),
-        0x2000..=0x7fff => Place::Refused(Refusal::NoSuchPlace),
-        _ => Place::Zero,
+        0x0000..=0x1fff => places::prg_ram(cart, address),
+        0x2000..=0x7fff => Landing::Refused(Refusal::NoSuchPlace),
+        _ => Landing::At(Place::Nowhere),
     }
 }
 
@@ -55,42 +57,42 @@ impl Cnrom {
         self.bank < 4
     }
 
-    fn house_read_place(self, cart: Cartridge, address: u16) -> Place
-        ensures { λ r. ⌜ r ≡ houseReadPlace self cart address ⌝ }
+    fn house_read_landing(self, cart: Cartridge, address: u16) -> Landing
+        ensures { λ r. ⌜ r ≡ landsIn cart (houseReadWindow self cart address) address ⌝ }
     {
         match address {
-            0x0000..=0x1fff => places::chr_place_8k(cart, Bank8K(self.bank as u32), address),
-            0x2000..=0x7fff => Place::Refused(Refusal::NoSuchPlace),
+            0x0000..=0x1fff => places::chr_8k(cart, Bank8K(self.bank as u32), address),
+            0x2000..=0x7fff => Landing::Refused(Refusal::NoSuchPlace),
             _ => house_prg(cart, address),
         }
     }
 
-    fn board_read_place(self, cart: Cartridge, address: u16) -> Place
-        ensures { λ r. ⌜ r ≡ boardReadPlace self cart address ⌝ }
+    fn board_read_landing(self, cart: Cartridge, address: u16) -> Landing
+        ensures { λ r. ⌜ r ≡ landsIn cart (boardReadWindow self cart address) address ⌝ }
     {
         match address {
-            0x0000..=0x1fff => places::chr_place_8k(cart, Bank8K(self.bank as u32), address),
-            _ => nrom::fixed_prg(cart, address),
+            0x0000..=0x1fff => places::chr_8k(cart, Bank8K(self.bank as u32), address),
+            _ => places::fixed_prg(cart, address),
         }
     }
 
-    pub fn read_place(self, cart: Cartridge, address: u16) -> Place
-        ensures { λ r. ⌜ r ≡ readPlace self cart address ⌝ }
+    pub fn read_landing(self, cart: Cartridge, address: u16) -> Landing
+        ensures { λ r. ⌜ r ≡ landsIn cart (readWindow self cart address) address ⌝ }
     {
         let mode = cart.mode;
         match mode {
-            Mode::House => self.house_read_place(cart, address),
-            Mode::Board => self.board_read_place(cart, address),
+            Mode::House => self.house_read_landing(cart, address),
+            Mode::Board => self.board_read_landing(cart, address),
         }
     }
 
-    pub fn write_place(self, cart: Cartridge, address: u16) -> Place
-        ensures { λ r. ⌜ r ≡ writePlace self cart address ⌝ }
+    pub fn write_landing(self, cart: Cartridge, address: u16) -> Landing
+        ensures { λ r. ⌜ r ≡ landsIn cart (writeWindow self cart address) address ⌝ }
     {
         let mode = cart.mode;
         match mode {
-            Mode::House => house_write_place(address),
-            Mode::Board => self.board_read_place(cart, address),
+            Mode::House => house_write_landing(cart, address),
+            Mode::Board => self.board_read_landing(cart, address),
         }
     }
 

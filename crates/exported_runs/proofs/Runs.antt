@@ -11,19 +11,19 @@ use lib.ListN.{length}
 use Rattle.rules.proofs.Bools.{and-left}
 use Rattle.common.specs.Common.{modeOf}
 use Rattle.common.specs.declared.Mode.{Mode}
+use Rattle.common.specs.declared.Refusal.the-variants.{RamNot8K, StateOutOfRange}
 use Rattle.cartridge.specs.Header.{headerOf}
-use Rattle.cartridge.specs.Load.{verdict, cartridgeOf, loadedAs}
+use Rattle.cartridge.specs.Load.{verdict, cartridgeOf, loadedAs, ramsFit}
 use Rattle.cartridge.specs.declared.Cartridge.{Cartridge}
 use Rattle.cartridge.specs.declared.Header.{Header}
-use Rattle.cartridge.specs.declared.Refusal.the-variants.{RamNot8K, StateOutOfRange}
 use Rattle.cartridge.specs.declared.Verdict.{Verdict}
 use Rattle.cartridge.specs.declared.Verdict.the-variants.{Take, Refuse}
-use Rattle.boards.specs.Range.{ramsFit}
 use Rattle.boards.specs.Read.{read}
 use Rattle.boards.specs.Start.{startOf, loadedBoard}
 use Rattle.boards.specs.Write as boards
-use Rattle.boards.specs.Runs as runs
+use Rattle.boards.specs.Runs.{Lent, lent, next}
 use Rattle.boards.specs.declared.Board.{Board}
+use Rattle.boards.specs.declared.Event.the-variants.{Write, Clock}
 use Rattle.states.specs.Words.{wordsOf}
 use Rattle.exports.specs.Numbers.{refused, readNumber, loadNumber}
 use Rattle.exports.specs.Bytes.{bytesOf, isState, kept}
@@ -50,8 +50,8 @@ module _ (s : List ℕ) (b : Board) (h : Holds s b) where
 
   -- after a write of a byte: what is lent is the next board's
   pub after-write : (image prg chr : List ℕ) (a v r : ℕ) (s′ prg′ chr′ : List ℕ) → v < 0x100 → WriteOwes s image prg chr a v r s′ prg′ chr′
-      → Holds s′ (runs.next b (runs.Call.write (record { image = image; prg = prg; chr = chr }) a v))
-  unfolding runs.next
+      → Holds s′ (next b (lent image prg chr) (Write a v))
+  unfolding next
   after-write image prg chr a v r s′ prg′ chr′ l o =
       let w = boards.writtenAs b (boards.landing b image prg chr a) v a in
       let z =
@@ -60,16 +60,16 @@ module _ (s : List ℕ) (b : Board) (h : Holds s b) where
       in
       record {
         bytes = z .state;
-        in-range = next-in-range b (runs.Call.write (record { image = image; prg = prg; chr = chr }) a v) (h .in-range);
+        in-range = next-in-range b (lent image prg chr) (Write a v) (h .in-range);
         of-its-types = write-typed b (h .of-its-types) (boards.landing b image prg chr a) v a l;
       }
 
-  -- after a clock
-  pub after-clock : (r : ℕ) (s′ : List ℕ) → ClockOwes s r s′ → Holds s′ (runs.next b runs.Call.clock)
-  unfolding runs.next
-  after-clock r s′ o =
+  -- after a clock, which looks at nothing that is lent
+  pub after-clock : (l : Lent) (r : ℕ) (s′ : List ℕ) → ClockOwes s r s′ → Holds s′ (next b l Clock)
+  unfolding next
+  after-clock l r s′ o =
       let z = clocks-as b (h .of-its-types) (h .in-range) r s′ (subst (λ (x : List ℕ). ClockOwes x r s′) (h .bytes) o) in
-      record { bytes = z .state; in-range = next-in-range b runs.Call.clock (h .in-range); of-its-types = clocked-typed b (h .of-its-types) }
+      record { bytes = z .state; in-range = next-in-range b l Clock (h .in-range); of-its-types = clocked-typed b (h .of-its-types) }
 
 -- a load that answers 0 has taken the image
 taken : (d : Verdict) (c : Cartridge) → loadNumber (loadedBoard (loadedAs d c) .answer) ≡ 0 → d ≡ Take

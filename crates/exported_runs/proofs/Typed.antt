@@ -8,12 +8,12 @@ use Rattle.rules.specs.Rows.{Fits, bytes}
 use Rattle.rules.proofs.Bools.{either}
 use Rattle.common.specs.declared.Mode.{Mode}
 use Rattle.common.specs.declared.Mode.the-variants.{House, Board as OnBoard}
-use Rattle.cartridge.specs.Answers.{isMapper}
+use Rattle.cartridge.specs.Mappers.{isMapper}
 use Rattle.cartridge.specs.declared.Cartridge.{Cartridge}
 use Rattle.cartridge.specs.declared.MapperType.{MapperType}
 use Rattle.cartridge.specs.declared.MapperType.the-variants.{Nrom, Mmc1, Uxrom, Cnrom, Mmc3}
-use Rattle.places.specs.declared.Place.{Place}
-use Rattle.places.specs.declared.Place.the-variants.{Prg, Chr, PrgRam, ChrRam, Zero, Refused}
+use Rattle.places.specs.declared.Landing.{Landing}
+use Rattle.places.specs.declared.Landing.the-variants.{At, Refused}
 use Rattle.uxrom.specs.Uxrom as uxrom
 use Rattle.uxrom.specs.declared.Uxrom as uxrom-type
 use Rattle.mmc3.specs.Clock.{houseClock, nextCounter, boardClock, clockIn, withIrq, clocked}
@@ -114,14 +114,10 @@ module _ (b : Board) (t : OfItsTypes b) where
       of-its-types (acceptedWrite b v a .board) (t .image) (moved-typed (b .cart .mapper) (b .cart .mode) (b .registers) v a h (typed b t))
 
   -- the board after a write of a byte
-  pub write-typed : (p : Place) (v a : ℕ) → Byte v → OfItsTypes (writtenAs b p v a .board)
+  pub write-typed : (p : Landing) (v a : ℕ) → Byte v → OfItsTypes (writtenAs b p v a .board)
   unfolding writtenAs
   write-typed (Refused why) v a h = t
-  write-typed (Prg i) v a h = accepted-typed v a h
-  write-typed (Chr i) v a h = accepted-typed v a h
-  write-typed (PrgRam i) v a h = accepted-typed v a h
-  write-typed (ChrRam i) v a h = accepted-typed v a h
-  write-typed Zero v a h = accepted-typed v a h
+  write-typed (At p) v a h = accepted-typed v a h
 
   -- and after a clock
   pub clocked-typed : OfItsTypes (boards.clock b .board)

@@ -8,19 +8,19 @@ use lib.Dec.{ltb, eqb}
 use lib.ListN.{length}
 use Rattle.rules.proofs.Bools.{and-both, either}
 use Rattle.common.specs.Common.{modeOf}
-use Rattle.cartridge.specs.Answers.{mirroringLetter, same}
+use Rattle.common.specs.Answers.{mirroringLetter, same}
+use Rattle.common.specs.declared.Mirroring.{Mirroring}
+use Rattle.common.specs.declared.Mirroring.the-variants.{Horizontal, Vertical, SingleScreenUpper, SingleScreenLower}
+use Rattle.common.specs.declared.Mirrors.{Mirrors}
+use Rattle.common.specs.declared.Mirrors.the-variants.{AsBefore, As}
 use Rattle.cartridge.specs.Header.{headerOf}
-use Rattle.cartridge.specs.Load.{firstOf, verdictOn, verdict, cartridgeOf, loadedAs, ramAfter}
-use Rattle.cartridge.specs.declared.Mirroring.{Mirroring}
-use Rattle.cartridge.specs.declared.Mirroring.the-variants.{Horizontal, Vertical, SingleScreenUpper, SingleScreenLower}
-use Rattle.cartridge.specs.declared.Mirrors.{Mirrors}
-use Rattle.cartridge.specs.declared.Mirrors.the-variants.{AsBefore, As}
+use Rattle.cartridge.specs.Load.{firstOf, verdictOn, verdict, cartridgeOf, loadedAs, ramAfter, ramsFit}
 use Rattle.cartridge.specs.declared.Verdict.{Verdict}
 use Rattle.places.specs.Places.{storedPrg, storedChr}
-use Rattle.places.specs.declared.Place.{Place}
-use Rattle.places.specs.declared.Place.the-variants.{Prg, Chr, PrgRam, ChrRam, Zero, Refused}
+use Rattle.places.specs.declared.Landing.{Landing}
+use Rattle.places.specs.declared.Landing.the-variants.{At, Refused}
 use Rattle.boards.specs.Registers.{moved, ticked}
-use Rattle.boards.specs.Range.{inRange, isLoaded, ramsFit}
+use Rattle.boards.specs.Range.{inRange, isLoaded}
 use Rattle.boards.specs.Read.{readIf, read}
 use Rattle.boards.specs.Write as boards
 use Rattle.boards.specs.Clock.{yesNo, acceptedClock, clockIf, clock}
@@ -76,15 +76,11 @@ module _ (b : Board) where
   kept-accepted v a = kept-next _ _ (notice-small _ _)
 
   -- so after a write, also after a refusal, which leaves the board
-  kept-written : (p : Place) (v a : ℕ)
+  kept-written : (p : Landing) (v a : ℕ)
       → kept (encoded b) (writeNumber (boards.writtenAs b p v a .answer)) (wordsOf (boards.writtenAs b p v a .board)) ≡ encoded (boards.writtenAs b p v a .board)
   unfolding kept bytesOf boards.writtenAs
   kept-written (Refused why) v a = either (λ (s : List ℕ). s ≡ encoded b) (ltb (writeNumber (boards.writtenAs b (Refused why) v a .answer)) 256) refl refl
-  kept-written (Prg i) v a = kept-accepted v a
-  kept-written (Chr i) v a = kept-accepted v a
-  kept-written (PrgRam i) v a = kept-accepted v a
-  kept-written (ChrRam i) v a = kept-accepted v a
-  kept-written Zero v a = kept-accepted v a
+  kept-written (At p) v a = kept-accepted v a
 
 module _ (b : Board) (t : OfItsTypes b) (h : inRange b ≡ true) where
   -- the bytes are a state for an image exactly where the board is loaded with it
@@ -109,14 +105,14 @@ module _ (b : Board) (t : OfItsTypes b) (h : inRange b ≡ true) where
   writes-as image prg chr a v w prg″ chr″ r s′ prg′ chr′ o e =
       let p = boards.landing b image prg chr a in
       let z : boards.writtenAs (boardIn (encoded b)) (writing (encoded b) image prg chr a) v a ≡ boards.writtenAs b p v a
-      = ap₂ (λ (x : Board) (q : Place). boards.writtenAs x q v a) (there-and-back b t h) (landed image prg chr a) in
+      = ap₂ (λ (x : Board) (q : Landing). boards.writtenAs x q v a) (there-and-back b t h) (landed image prg chr a) in
       let y : r ≡ writeNumber (boards.writtenAs b p v a .answer) = e .reply ∙ ap (λ (x : Written). writeNumber (x .answer)) z in
       record {
         reply = y ∙ ap (λ (x : Written). writeNumber (x .answer)) (sym (o .reply));
         state = e .state ∙ ap₂ (λ (n : ℕ) (x : Written). kept (encoded b) n (wordsOf (x .board))) y z ∙ kept-written b p v a
             ∙ ap (λ (x : Written). encoded (x .board)) (sym (o .reply));
-        prg-ram = e .prg-ram ∙ ap (λ (q : Place). storedPrg q v prg) (landed image prg chr a) ∙ sym (o .prg-ram);
-        chr-ram = e .chr-ram ∙ ap (λ (q : Place). storedChr q v chr) (landed image prg chr a) ∙ sym (o .chr-ram);
+        prg-ram = e .prg-ram ∙ ap (λ (q : Landing). storedPrg q v prg) (landed image prg chr a) ∙ sym (o .prg-ram);
+        chr-ram = e .chr-ram ∙ ap (λ (q : Landing). storedChr q v chr) (landed image prg chr a) ∙ sym (o .chr-ram);
       }
 
   -- a clock

@@ -2,5 +2,5 @@ mod Put
 pub mod RoundTrip
 pub mod AsBoards
 pub mod Unique
-mod Clocks
+mod Keeps
 mod BoardRead

@@ -11,9 +11,9 @@ use Rattle.rules.specs.Rows.{bytes}
 use Rattle.rules.specs.Flat.{flatDigits}
 use Rattle.rules.proofs.Flat.{flat-there, flat-back}
 use Rattle.rules.proofs.Bools.{and-left, and-right, and-both}
+use Rattle.common.specs.declared.Refusal.the-variants.{StateOutOfRange}
 use Rattle.memory.specs.Memory.{byte}
 use Rattle.cartridge.specs.Load.{badPrg, couldLoad}
-use Rattle.cartridge.specs.declared.Refusal.the-variants.{StateOutOfRange}
 use Rattle.boards.specs.Range.{inRange}
 use Rattle.boards.specs.declared.Board.{Board}
 use Rattle.states.specs.Words as states-specs

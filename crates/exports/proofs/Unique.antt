@@ -8,6 +8,7 @@ use Rattle.exports.proofs.biekkarul_read.Reads as read
 use Rattle.exports.proofs.biekkarul_write.Reads as write
 use Rattle.exports.proofs.biekkarul_clock.Reads as clock
 use Rattle.exports.proofs.biekkarul_digits.Reads as digits
+use Rattle.exports.proofs.biekkarul_version.Reads as version
 
 module _ (κs : _) (a : _) (r r′ : _) (s s′ : _) (p : header.Post κs a r s) (q : header.Post κs a r′ s′) where
   pub header-reply : r ≡ r′
@@ -59,3 +60,7 @@ module _ (κs : _) (a : _) (r r′ : _) (s s′ : _) (p : digits.Post κs a r s)
 
   pub digits-shown : now (s .1 .0) ≡ now (s′ .1 .0)
   digits-shown = p .digits ∙ sym (q .digits)
+
+module _ (κs : _) (a : _) (r r′ : _) (s s′ : _) (p : version.Post κs a r s) (q : version.Post κs a r′ s′) where
+  pub version-reply : r ≡ r′
+  version-reply = p ∙ sym q

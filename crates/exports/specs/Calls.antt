@@ -6,14 +6,13 @@ use mathlib.Core.List.{List}
 use lib.Dec.{ltb, eqb}
 use lib.ListN.{length}
 use Rattle.common.specs.Common.{modeOf}
+use Rattle.common.specs.declared.Refusal.the-variants.{RamNot8K, StateOutOfRange}
 use Rattle.cartridge.specs.Header.{headerOf, headerRead}
-use Rattle.cartridge.specs.Load.{verdict, cartridgeOf, loadedAs, ramAfter}
-use Rattle.cartridge.specs.declared.Refusal.the-variants.{RamNot8K, StateOutOfRange}
+use Rattle.cartridge.specs.Load.{verdict, cartridgeOf, loadedAs, ramAfter, ramsFit}
 use Rattle.cartridge.specs.declared.Verdict as decided
 use Rattle.places.specs.Places.{storedPrg, storedChr}
-use Rattle.places.specs.declared.Place.{Place}
+use Rattle.places.specs.declared.Landing.{Landing}
 use Rattle.boards.specs.Start.{loadedBoard}
-use Rattle.boards.specs.Range.{ramsFit}
 use Rattle.boards.specs.Read.{readIf}
 use Rattle.boards.specs.Write.{landingIf, writtenAs}
 use Rattle.boards.specs.Clock.{clockIf}
@@ -46,7 +45,7 @@ unfoldable pub readBytes : List ℕ → List ℕ → List ℕ → List ℕ → �
 readBytes s image prg chr a = readNumber (readIf (isStateFor s (length image)) (boardIn s) image prg chr a)
 
 -- where the byte of a write lands
-abbrev pub writing : List ℕ → List ℕ → List ℕ → List ℕ → ℕ → Place
+abbrev pub writing : List ℕ → List ℕ → List ℕ → List ℕ → ℕ → Landing
 writing s image prg chr a = landingIf (isStateFor s (length image)) (boardIn s) prg chr a
 
 -- what a write owes: the answer, the state and both RAMs

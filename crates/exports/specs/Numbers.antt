@@ -23,3 +23,7 @@ fieldsOf h =
 unfoldable pub fieldsAfter : HeaderAnswer → List ℕ → List ℕ
 fieldsAfter (Read h) f = fieldsOf h
 fieldsAfter (Refused why) f = f
+
+-- "The version of the exported calls is 1": it grows where a call, an answer or what a caller owes becomes another
+abbrev pub version : ℕ
+version = 1

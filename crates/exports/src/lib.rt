@@ -7,11 +7,11 @@ ghost use lib.ListN.{length};
 ghost use Rattle.rules.specs.Flat.{flatWord, flatDigits};
 ghost use Rattle.rules.specs.Rows.{bytes};
 ghost use Rattle.memory.specs.Memory.{part, copied};
-ghost use Rattle.exports.specs.Numbers.{refused, readNumber, writeNumber, clockNumber, loadNumber, fieldsOf};
+ghost use Rattle.cartridge.specs.declared.MapperType.the-variants.{Nrom as OnNrom, Mmc1 as OnMmc1, Uxrom as OnUxrom, Cnrom as OnCnrom, Mmc3 as OnMmc3};
+ghost use Rattle.exports.specs.Numbers.{refused, readNumber, writeNumber, clockNumber, loadNumber, fieldsOf, version};
 ghost use Rattle.exports.specs.Bytes.{wordAt, fiveWords, wordsIn, bytesOf, kept};
 ghost use Rattle.exports.specs.Calls.{readBytes, WriteOwes, ClockOwes, LoadOwes, HeaderOwes, DigitsOwes};
 ghost use Rattle.exports.specs.Steps.{readAt, readOn, readIn, wordPut, FieldsPut};
-ghost use Rattle.cartridge.specs.declared.MapperType.the-variants.{Nrom as OnNrom, Mmc1 as OnMmc1, Uxrom as OnUxrom, Cnrom as OnCnrom, Mmc3 as OnMmc3};
 use boards::ClockAnswer;
 use boards::LoadAnswer;
 use boards::WriteAnswer;
@@ -19,9 +19,9 @@ use cartridge::Cartridge;
 use cartridge::Header;
 use cartridge::HeaderAnswer;
 use cartridge::MapperType;
-use cartridge::Refusal;
 use common::Mode;
-use places::Place;
+use common::Refusal;
+use places::Landing;
 use places::ReadAnswer;
 use states::Words;
 
@@ -179,11 +179,11 @@ fn keep(state: &mut [u8], answer: u16, w: Words)
     }
 }
 
-// The byte at a place, or the board's own refusal.
-fn read_at(cart: Cartridge, place: Place, image: &[u8], prg: &[u8], chr: &[u8]) -> u16
-    ensures { λ r. ⌜ r ≡ readAt cart place (now (image .entry)) (now (prg .entry)) (now (chr .entry)) ⌝ }
+// The byte where a read lands, or the board's own refusal.
+fn read_at(cart: Cartridge, landing: Landing, image: &[u8], prg: &[u8], chr: &[u8]) -> u16
+    ensures { λ r. ⌜ r ≡ readAt cart landing (now (image .entry)) (now (prg .entry)) (now (chr .entry)) ⌝ }
 {
-    read_number(places::answer_at(place, places::byte_of(cart, place, image, prg, chr)))
+    read_number(places::answer_at(landing, places::byte_at(cart, landing, image, prg, chr)))
 }
 
 // A read has a function for each board: it is the call that a game makes most, so it looks at no other
@@ -192,14 +192,13 @@ fn nrom_read(w: Words, image: &[u8], prg: &[u8], chr: &[u8], address: u16) -> u1
     ensures { λ r. ⌜ r ≡ readOn OnNrom w (now (image .entry)) (now (prg .entry)) (now (chr .entry)) address ⌝ }
 {
     let mapper = MapperType::Nrom;
-    let fits = states::prg_fits(mapper, w.cart)
-        & states::screens_are_kept(mapper, w.cart)
-        & states::cart_is_whole(mapper, w.cart)
+    let fits = states::cart_is_kept(mapper, w.cart, w.length)
+        & states::mode_is_kept(mapper, w.cart)
         & states::banks_are_kept(mapper, w.banks)
         & states::mmc3_is_kept(mapper, w.regs, w.irq);
     if fits {
         let cart = states::cart_in(w.cart, w.length);
-        read_at(cart, nrom::read_place(cart, address), image, prg, chr)
+        read_at(cart, nrom::read_landing(cart, address), image, prg, chr)
     } else {
         refusal(Refusal::StateOutOfRange)
     }
@@ -209,15 +208,14 @@ fn mmc1_read(w: Words, image: &[u8], prg: &[u8], chr: &[u8], address: u16) -> u1
     ensures { λ r. ⌜ r ≡ readOn OnMmc1 w (now (image .entry)) (now (prg .entry)) (now (chr .entry)) address ⌝ }
 {
     let mapper = MapperType::Mmc1;
-    let fits = states::prg_fits(mapper, w.cart)
-        & states::screens_are_kept(mapper, w.cart)
-        & states::cart_is_whole(mapper, w.cart)
+    let fits = states::cart_is_kept(mapper, w.cart, w.length)
+        & states::mode_is_kept(mapper, w.cart)
         & states::banks_are_kept(mapper, w.banks)
         & states::mmc3_is_kept(mapper, w.regs, w.irq);
     if fits {
         let cart = states::cart_in(w.cart, w.length);
         let mmc1 = states::mmc1_in(w.banks);
-        read_at(cart, mmc1.read_place(cart, address), image, prg, chr)
+        read_at(cart, mmc1.read_landing(cart, address), image, prg, chr)
     } else {
         refusal(Refusal::StateOutOfRange)
     }
@@ -227,15 +225,14 @@ fn uxrom_read(w: Words, image: &[u8], prg: &[u8], chr: &[u8], address: u16) -> u
     ensures { λ r. ⌜ r ≡ readOn OnUxrom w (now (image .entry)) (now (prg .entry)) (now (chr .entry)) address ⌝ }
 {
     let mapper = MapperType::Uxrom;
-    let fits = states::prg_fits(mapper, w.cart)
-        & states::screens_are_kept(mapper, w.cart)
-        & states::cart_is_whole(mapper, w.cart)
+    let fits = states::cart_is_kept(mapper, w.cart, w.length)
+        & states::mode_is_kept(mapper, w.cart)
         & states::banks_are_kept(mapper, w.banks)
         & states::mmc3_is_kept(mapper, w.regs, w.irq);
     if fits {
         let cart = states::cart_in(w.cart, w.length);
         let uxrom = states::uxrom_in(w.banks);
-        read_at(cart, uxrom.read_place(cart, address), image, prg, chr)
+        read_at(cart, uxrom.read_landing(cart, address), image, prg, chr)
     } else {
         refusal(Refusal::StateOutOfRange)
     }
@@ -245,15 +242,14 @@ fn cnrom_read(w: Words, image: &[u8], prg: &[u8], chr: &[u8], address: u16) -> u
     ensures { λ r. ⌜ r ≡ readOn OnCnrom w (now (image .entry)) (now (prg .entry)) (now (chr .entry)) address ⌝ }
 {
     let mapper = MapperType::Cnrom;
-    let fits = states::prg_fits(mapper, w.cart)
-        & states::screens_are_kept(mapper, w.cart)
-        & states::cart_is_whole(mapper, w.cart)
+    let fits = states::cart_is_kept(mapper, w.cart, w.length)
+        & states::mode_is_kept(mapper, w.cart)
         & states::banks_are_kept(mapper, w.banks)
         & states::mmc3_is_kept(mapper, w.regs, w.irq);
     if fits {
         let cart = states::cart_in(w.cart, w.length);
         let cnrom = states::cnrom_in(w.banks);
-        read_at(cart, cnrom.read_place(cart, address), image, prg, chr)
+        read_at(cart, cnrom.read_landing(cart, address), image, prg, chr)
     } else {
         refusal(Refusal::StateOutOfRange)
     }
@@ -263,26 +259,25 @@ fn mmc3_read(w: Words, image: &[u8], prg: &[u8], chr: &[u8], address: u16) -> u1
     ensures { λ r. ⌜ r ≡ readOn OnMmc3 w (now (image .entry)) (now (prg .entry)) (now (chr .entry)) address ⌝ }
 {
     let mapper = MapperType::Mmc3;
-    let fits = states::prg_fits(mapper, w.cart)
-        & states::screens_are_kept(mapper, w.cart)
-        & states::cart_is_whole(mapper, w.cart)
+    let fits = states::cart_is_kept(mapper, w.cart, w.length)
+        & states::mode_is_kept(mapper, w.cart)
         & states::banks_are_kept(mapper, w.banks)
         & states::mmc3_is_kept(mapper, w.regs, w.irq);
     if fits {
         let cart = states::cart_in(w.cart, w.length);
         let mmc3 = states::mmc3_in(w.regs, w.irq);
-        read_at(cart, mmc3.read_place(cart, address), image, prg, chr)
+        read_at(cart, mmc3.read_landing(cart, address), image, prg, chr)
     } else {
         refusal(Refusal::StateOutOfRange)
     }
 }
 
-// The board first.
+// By the board that the first word names, if the image is as long as the one loaded.
 fn read_in(w: Words, image: &[u8], prg: &[u8], chr: &[u8], address: u16) -> u16
     ensures { λ r. ⌜ r ≡ readIn w (now (image .entry)) (now (prg .entry)) (now (chr .entry)) address ⌝ }
 {
     let mapper = states::mapper_in(w.cart);
-    if states::could_load(w.cart, w.length) & ((image.len() as u64) == w.length) {
+    if (image.len() as u64) == w.length {
         match mapper {
             MapperType::Nrom => nrom_read(w, image, prg, chr, address),
             MapperType::Mmc1 => mmc1_read(w, image, prg, chr, address),
@@ -295,7 +290,7 @@ fn read_in(w: Words, image: &[u8], prg: &[u8], chr: &[u8], address: u16) -> u16
     }
 }
 
-// The three calls of a board: decoded, judged in the six parts of `states`, served, and what moved is
+// The three calls of a board: decoded, judged in the four parts of `states`, served, and what moved is
 // kept.
 #[no_mangle]
 pub extern "C" fn biekkarul_read(
@@ -308,7 +303,7 @@ pub extern "C" fn biekkarul_read(
     ensures { λ r. ⌜ r ≡ readBytes (now (state .entry)) (now (image .entry)) (now (prg .entry)) (now (chr .entry)) address ⌝ }
 {
     let w = words_in(state);
-    if boards::rams_fit(prg.len(), chr.len()) {
+    if cartridge::rams_fit(prg.len(), chr.len()) {
         read_in(w, image, prg, chr, address)
     } else {
         refusal(Refusal::RamNot8K)
@@ -329,18 +324,16 @@ pub extern "C" fn biekkarul_write(
     let w = words_in(state);
     let board = states::board_in(w);
     let mapper = states::mapper_in(w.cart);
-    let fits = states::could_load(w.cart, w.length)
-        & (states::prg_fits(mapper, w.cart)
-            & states::screens_are_kept(mapper, w.cart)
-            & states::cart_is_whole(mapper, w.cart)
-            & states::banks_are_kept(mapper, w.banks)
-            & states::mmc3_is_kept(mapper, w.regs, w.irq));
+    let fits = states::cart_is_kept(mapper, w.cart, w.length)
+        & states::mode_is_kept(mapper, w.cart)
+        & states::banks_are_kept(mapper, w.banks)
+        & states::mmc3_is_kept(mapper, w.regs, w.irq);
     let loaded = (image.len() as u64) == w.length;
     let written = board.write_if(fits & loaded, prg, chr, address, value);
     let said = written.answer;
     let answer = write_number(said);
     let next = written.board;
-    keep(state, answer, states::words_of(next));
+    keep(state, answer, states::after_write(mapper, w, next));
     answer
 }
 
@@ -351,12 +344,10 @@ pub extern "C" fn biekkarul_clock(state: &mut [u8]) -> u16
     let w = words_in(state);
     let board = states::board_in(w);
     let mapper = states::mapper_in(w.cart);
-    let fits = states::could_load(w.cart, w.length)
-        & (states::prg_fits(mapper, w.cart)
-            & states::screens_are_kept(mapper, w.cart)
-            & states::cart_is_whole(mapper, w.cart)
-            & states::banks_are_kept(mapper, w.banks)
-            & states::mmc3_is_kept(mapper, w.regs, w.irq));
+    let fits = states::cart_is_kept(mapper, w.cart, w.length)
+        & states::mode_is_kept(mapper, w.cart)
+        & states::banks_are_kept(mapper, w.banks)
+        & states::mmc3_is_kept(mapper, w.regs, w.irq);
     let clocked = board.clock_if(fits);
     let said = clocked.answer;
     let answer = clock_number(said);
@@ -375,7 +366,7 @@ pub extern "C" fn biekkarul_load(
 ) -> u16
     ensures { λ r. ⌜ LoadOwes (now (image .entry)) mode (now (state .entry)) (now (prg .entry)) (now (chr .entry)) r (now (state .exit)) (now (prg .exit)) (now (chr .exit)) ⌝ }
 {
-    if boards::rams_fit(prg.len(), chr.len()) {
+    if cartridge::rams_fit(prg.len(), chr.len()) {
         if (state.len() == 40) & (mode < 2) {
             let loaded = boards::load(image, Mode::numbered(mode), prg, chr);
             let said = loaded.answer;
@@ -409,12 +400,10 @@ pub extern "C" fn biekkarul_digits(state: &[u8], digits: &mut [u64]) -> u16
 {
     let w = words_in(state);
     let mapper = states::mapper_in(w.cart);
-    let fits = states::could_load(w.cart, w.length)
-        & (states::prg_fits(mapper, w.cart)
-            & states::screens_are_kept(mapper, w.cart)
-            & states::cart_is_whole(mapper, w.cart)
-            & states::banks_are_kept(mapper, w.banks)
-            & states::mmc3_is_kept(mapper, w.regs, w.irq));
+    let fits = states::cart_is_kept(mapper, w.cart, w.length)
+        & states::mode_is_kept(mapper, w.cart)
+        & states::banks_are_kept(mapper, w.banks)
+        & states::mmc3_is_kept(mapper, w.regs, w.irq);
     if fits & (digits.len() == 40) {
         copy_digits(digits, &states::digits_of(w));
         0
@@ -464,4 +453,12 @@ pub extern "C" fn biekkarul_header(image: &[u8], fields: &mut [u8]) -> u16
     } else {
         refusal(Refusal::StateOutOfRange)
     }
+}
+
+// So that a caller can tell whether this library is the one that its header or wrapper was written for.
+#[no_mangle]
+pub extern "C" fn biekkarul_version() -> u32
+    ensures { λ r. ⌜ r ≡ version ⌝ }
+{
+    1
 }

@@ -3,8 +3,7 @@
 use Prim.Native.Nat.{ℕ}
 use mathlib.Core.Path.{_≡_, ap, _∙_}
 use mathlib.Core.Bool.{Bool, true, cond}
-use Rattle.cartridge.specs.Answers.{isMapper}
-use Rattle.cartridge.specs.declared.Cartridge.{Cartridge}
+use Rattle.cartridge.specs.Mappers.{isMapper}
 use Rattle.cartridge.specs.declared.MapperType.{MapperType}
 use Rattle.cartridge.specs.declared.MapperType.the-variants.{Mmc3}
 use Rattle.mmc3.specs.Clock as mmc3-clock
@@ -16,15 +15,15 @@ use Rattle.boards.specs.Range.{inRange}
 use Rattle.boards.specs.Registers.{moved, mmc3Ticked, ticked}
 use Rattle.boards.specs.Write.{turned, acceptedWrite, landing}
 use Rattle.boards.specs.Clock.{yesNo, acceptedClock, clock}
-use Rattle.boards.specs.Runs.{Lent, next}
-use Rattle.boards.specs.Runs.Call.{write, clock as tick}
+use Rattle.boards.specs.Runs.{next}
 use Rattle.boards.specs.declared.Board.{Board}
 use Rattle.boards.specs.declared.Ticked.{Ticked}
+use Rattle.laws.specs.Calls.{OneImage, LentWrite, wrote}
 use Rattle.laws.specs.Loads.{accepts}
 use Rattle.laws.specs.SettlesMmc3.{Arming, latched, reloaded, armed, Accepts}
 use Rattle.laws.proofs.Accepting.{after-write}
 use Rattle.laws.proofs.Clocks.{ready}
-use Rattle.laws.proofs.Ranges.{next-in-range, next-keeps-cart}
+use Rattle.laws.proofs.OneImage.{wrote-one}
 
 pub moved-mmc3 : (b : Board) → b .cart .mapper ≡ Mmc3 → (v a : ℕ) → acceptedWrite b v a .board .registers .mmc3 ≡ applied (moveOf v a) (b .registers .mmc3)
 unfolding acceptedWrite turned moved written
@@ -36,57 +35,48 @@ module _ (b : Board) (ok : inRange b ≡ true) (is-mmc3 : b .cart .mapper ≡ Mm
   unfolding ticked isMapper
   ticked-is = ap (λ (k : MapperType). ticked k (b .cart .mode) (b .registers)) is-mmc3
 
-  pub tick-irq : next b tick .registers .mmc3 .irq ≡ mmc3-clock.clockIn (b .cart .mode) (b .registers .mmc3 .irq) .irq
-  unfolding next clock acceptedClock mmc3-clock.clocked mmc3-clock.withIrq
-  tick-irq = rw (next, clock, ok) (ap (λ (t : Ticked). t .registers .mmc3 .irq) ticked-is)
+  pub tick-irq : clock b .board .registers .mmc3 .irq ≡ mmc3-clock.clockIn (b .cart .mode) (b .registers .mmc3 .irq) .irq
+  unfolding clock acceptedClock mmc3-clock.clocked mmc3-clock.withIrq
+  tick-irq = rw ok (ap (λ (t : Ticked). t .registers .mmc3 .irq) ticked-is)
 
   pub tick-answer : clock b .answer ≡ yesNo (mmc3-clock.clockIn (b .cart .mode) (b .registers .mmc3 .irq) .answer)
   unfolding clock acceptedClock mmc3-clock.clocked
   tick-answer = rw ok (ap (λ (t : Ticked). yesNo (t .yes)) ticked-is)
 
-  -- an accepted write leaves what its move makes
-  accepted-irq : (l : Lent) (a v : ℕ) (k : Move) → accepts b l a ≡ true → moveOf v a ≡ k → next b (write l a v) .registers .mmc3 .irq ≡ applied k (b .registers .mmc3) .irq
-  unfolding next
-  accepted-irq l a v k e f =
-      ap (λ (x : Board). x .registers .mmc3 .irq) (after-write b (landing b (l .image) (l .prg) (l .chr) a) v a)
-      ∙ ap (λ (t : Bool). cond t (acceptedWrite b v a .board) b .registers .mmc3 .irq) e
-      ∙ ap (λ (m : mmc3-type.Mmc3). m .irq) (moved-mmc3 b is-mmc3 v a ∙ ap (λ (x : Move). applied x (b .registers .mmc3)) f)
+-- an accepted write leaves what its move makes
+accepted-irq : (b : Board) → b .cart .mapper ≡ Mmc3 → (w : LentWrite) (k : Move) → accepts b (w .lent) (w .address) ≡ true → moveOf (w .byte) (w .address) ≡ k
+    → wrote b w .registers .mmc3 .irq ≡ applied k (b .registers .mmc3) .irq
+unfolding next
+accepted-irq b is-mmc3 w k e f =
+    let l = w .lent in
+    ap (λ (x : Board). x .registers .mmc3 .irq) (after-write b (landing b (l .image) (l .prg) (l .chr) (w .address)) (w .byte) (w .address))
+    ∙ ap (λ (t : Bool). cond t (acceptedWrite b (w .byte) (w .address) .board) b .registers .mmc3 .irq) e
+    ∙ ap (λ (m : mmc3-type.Mmc3). m .irq) (moved-mmc3 b is-mmc3 (w .byte) (w .address) ∙ ap (λ (x : Move). applied x (b .registers .mmc3)) f)
 
 -- the three writes leave such a unit
-module _ (b : Board) (ok : inRange b ≡ true) (is-mmc3 : b .cart .mapper ≡ Mmc3) (w : Arming) (p : Accepts b w) where
-  ok₁ : inRange (latched b w) ≡ true
-  ok₁ = next-in-range b (write (w .latch .lent) (w .latch .address) (w .latch .byte)) ok
+module _ {b d : Board} (o : OneImage Mmc3 b d) (w : Arming) where
+  latched-one : OneImage Mmc3 (latched b w) d
+  latched-one = wrote-one o (w .latch)
 
-  ok₂ : inRange (reloaded b w) ≡ true
-  ok₂ = next-in-range (latched b w) (write (w .reload .lent) (w .reload .address) (w .reload .byte)) ok₁
+  reloaded-one : OneImage Mmc3 (reloaded b w) d
+  reloaded-one = wrote-one latched-one (w .reload)
 
-  pub ok₃ : inRange (armed b w) ≡ true
-  ok₃ = next-in-range (reloaded b w) (write (w .enable .lent) (w .enable .address) (w .enable .byte)) ok₂
+  pub armed-one : OneImage Mmc3 (armed b w) d
+  armed-one = wrote-one reloaded-one (w .enable)
 
-  cart₁ : latched b w .cart ≡ b .cart
-  cart₁ = next-keeps-cart b (write (w .latch .lent) (w .latch .address) (w .latch .byte))
+  module _ (p : Accepts b w) where
+    irq₁ : latched b w .registers .mmc3 .irq ≡ record { enabled = b .registers .mmc3 .irq .enabled; latch = w .latch .byte; counter = b .registers .mmc3 .irq .counter; reload = b .registers .mmc3 .irq .reload }
+    unfolding applied mmc3-clock.withIrq
+    irq₁ = accepted-irq b (o .mapper) (w .latch) (Latch (w .latch .byte)) (p .latch) (p .is-latch)
 
-  cart₂ : reloaded b w .cart ≡ b .cart
-  cart₂ = next-keeps-cart (latched b w) (write (w .reload .lent) (w .reload .address) (w .reload .byte)) ∙ cart₁
+    irq₂ : reloaded b w .registers .mmc3 .irq ≡ record { enabled = b .registers .mmc3 .irq .enabled; latch = w .latch .byte; counter = b .registers .mmc3 .irq .counter; reload = true }
+    unfolding applied mmc3-clock.withIrq
+    irq₂ =
+        accepted-irq (latched b w) (latched-one .mapper) (w .reload) Reload (p .reload) (p .is-reload)
+        ∙ (λ i. record { enabled = irq₁ i .enabled; latch = irq₁ i .latch; counter = irq₁ i .counter; reload = true })
 
-  pub cart₃ : armed b w .cart ≡ b .cart
-  cart₃ = next-keeps-cart (reloaded b w) (write (w .enable .lent) (w .enable .address) (w .enable .byte)) ∙ cart₂
-
-  irq₁ : latched b w .registers .mmc3 .irq ≡ record { enabled = b .registers .mmc3 .irq .enabled; latch = w .latch .byte; counter = b .registers .mmc3 .irq .counter; reload = b .registers .mmc3 .irq .reload }
-  unfolding applied mmc3-clock.withIrq
-  irq₁ = accepted-irq b ok is-mmc3 (w .latch .lent) (w .latch .address) (w .latch .byte) (Latch (w .latch .byte)) (p .latch) (p .is-latch)
-
-  irq₂ : reloaded b w .registers .mmc3 .irq ≡ record { enabled = b .registers .mmc3 .irq .enabled; latch = w .latch .byte; counter = b .registers .mmc3 .irq .counter; reload = true }
-  unfolding applied mmc3-clock.withIrq
-  irq₂ =
-      accepted-irq (latched b w) ok₁ (ap (λ (c : Cartridge). c .mapper) cart₁ ∙ is-mmc3) (w .reload .lent) (w .reload .address) (w .reload .byte) Reload (p .reload) (p .is-reload)
-      ∙ (λ i. record { enabled = irq₁ i .enabled; latch = irq₁ i .latch; counter = irq₁ i .counter; reload = true })
-
-  pub irq₃ : armed b w .registers .mmc3 .irq ≡ ready (w .latch .byte) (b .registers .mmc3 .irq .counter)
-  unfolding applied mmc3-clock.withIrq
-  irq₃ =
-      accepted-irq (reloaded b w) ok₂ (ap (λ (c : Cartridge). c .mapper) cart₂ ∙ is-mmc3) (w .enable .lent) (w .enable .address) (w .enable .byte) Enable (p .enable) (p .is-enable)
-      ∙ (λ i. record { enabled = true; latch = irq₂ i .latch; counter = irq₂ i .counter; reload = irq₂ i .reload })
-
-  pub mapper₃ : armed b w .cart .mapper ≡ Mmc3
-  mapper₃ = ap (λ (c : Cartridge). c .mapper) cart₃ ∙ is-mmc3
+    pub armed-irq : armed b w .registers .mmc3 .irq ≡ ready (w .latch .byte) (b .registers .mmc3 .irq .counter)
+    unfolding applied mmc3-clock.withIrq
+    armed-irq =
+        accepted-irq (reloaded b w) (reloaded-one .mapper) (w .enable) Enable (p .enable) (p .is-enable)
+        ∙ (λ i. record { enabled = true; latch = irq₂ i .latch; counter = irq₂ i .counter; reload = irq₂ i .reload })

@@ -9,7 +9,8 @@ use lib.ListN.{length}
 use Rattle.common.specs.declared.Mode.{Mode}
 use Rattle.memory.specs.Memory.{byte}
 use Rattle.cartridge.specs.Header.{mapperOf, headerOf}
-use Rattle.cartridge.specs.Load.{verdict, mapperType, cartridgeOf, loadedAs}
+use Rattle.cartridge.specs.Load.{verdict, cartridgeOf, loadedAs}
+use Rattle.cartridge.specs.Mappers.{mapperType}
 use Rattle.cartridge.specs.declared.Cartridge.{Cartridge}
 use Rattle.cartridge.specs.declared.MapperType.{MapperType}
 use Rattle.cartridge.specs.declared.Verdict.{Verdict}

@@ -4,6 +4,7 @@ mod Accepting
 mod Tables
 mod Mmc1Ranges
 mod Mmc3Ranges
+mod OneImage
 mod Mmc1Moves
 mod Mmc1Answers
 mod Positions

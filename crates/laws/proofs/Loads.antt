@@ -1,18 +1,19 @@
--- `accepts` is what a write answers, and `made` is what a call leaves in MMC1's registers. Assumes nothing.
+-- `accepts` is what a write answers, and `made` is what an event leaves in MMC1's registers. Assumes nothing.
 use Prim.Native.Nat.{ℕ, _+_}
 use mathlib.Core.Path.{_≡_, refl, ap, _∙_}
 use mathlib.Core.Bool.{Bool, true, false, cond, not, _&&_}
 use lib.Dec.{ltb}
 use Rattle.rules.proofs.Bools.{and-left}
 use Rattle.common.specs.Common.{isSigned}
-use Rattle.cartridge.specs.Answers.{same, isMapper}
+use Rattle.common.specs.Answers.{same}
+use Rattle.common.specs.declared.Mirroring.{Mirroring}
+use Rattle.common.specs.declared.Mirrors.{Mirrors}
+use Rattle.common.specs.declared.Mirrors.the-variants.{AsBefore, As}
+use Rattle.cartridge.specs.Mappers.{isMapper}
 use Rattle.cartridge.specs.declared.MapperType.the-variants.{Mmc1}
-use Rattle.cartridge.specs.declared.Mirroring.{Mirroring}
-use Rattle.cartridge.specs.declared.Mirrors.{Mirrors}
-use Rattle.cartridge.specs.declared.Mirrors.the-variants.{AsBefore, As}
 use Rattle.cartridge.proofs.Mappers.{is-this}
-use Rattle.places.specs.declared.Place.{Place}
-use Rattle.places.specs.declared.Place.the-variants.{Prg, Chr, PrgRam, ChrRam, Zero, Refused}
+use Rattle.places.specs.declared.Landing.{Landing}
+use Rattle.places.specs.declared.Landing.the-variants.{At, Refused}
 use Rattle.mmc1.specs.Write.{shifted, empty, registerAt, moveOf, load, applied}
 use Rattle.mmc1.specs.declared.Move.{Move}
 use Rattle.mmc1.specs.declared.Move.the-variants.{Nothing, Clear, Enter, Fill}
@@ -21,10 +22,11 @@ use Rattle.mmc1.specs.declared.Serial.{Serial}
 use Rattle.boards.specs.Range.{inRange}
 use Rattle.boards.specs.Write.{noticeUnless, notice, turned, acceptedWrite, writtenAs, landing}
 use Rattle.boards.specs.Clock.{yesNo, acceptedClock, clock}
-use Rattle.boards.specs.Runs.{Lent, Call, next, answer}
-use Rattle.boards.specs.Runs.Call.{read, write, clock as tick}
-use Rattle.boards.specs.Runs.Answer.{toWrite, toClock}
+use Rattle.boards.specs.Runs.{Lent, next, answer}
 use Rattle.boards.specs.declared.Board.{Board}
+use Rattle.boards.specs.declared.Event.{Event}
+use Rattle.boards.specs.declared.Event.the-variants.{Read, Write, Clock}
+use Rattle.boards.specs.declared.Answer.the-variants.{Write as toWrite, Clock as toClock}
 use Rattle.laws.specs.Loads.{isAccepted, accepts, made}
 use Rattle.laws.specs.SettlesMmc1.{isSerial}
 use Rattle.laws.specs.Useless.{isRefusal}
@@ -41,17 +43,13 @@ unfolding notice
 noticed old AsBefore = refl
 noticed old (As m) = quiet-or-not (same old m) m
 
-by-place : (b : Board) (p : Place) (v a : ℕ) → isRefusal (toWrite (writtenAs b p v a .answer)) ≡ not (isAccepted p)
+by-place : (b : Board) (p : Landing) (v a : ℕ) → isRefusal (toWrite (writtenAs b p v a .answer)) ≡ not (isAccepted p)
 unfolding writtenAs isAccepted acceptedWrite turned
 by-place b (Refused why) v a = refl
-by-place b (Prg i) v a = noticed _ _
-by-place b (Chr i) v a = noticed _ _
-by-place b (PrgRam i) v a = noticed _ _
-by-place b (ChrRam i) v a = noticed _ _
-by-place b Zero v a = noticed _ _
+by-place b (At p) v a = noticed _ _
 
 -- a write is accepted exactly when its answer is no refusal
-pub accepted-is-not-refused : (b : Board) (l : Lent) (a v : ℕ) → isRefusal (answer b (write l a v)) ≡ not (accepts b l a)
+pub accepted-is-not-refused : (b : Board) (l : Lent) (a v : ℕ) → isRefusal (answer b l (Write a v)) ≡ not (accepts b l a)
 unfolding answer
 accepted-is-not-refused b l a v = by-place b (landing b (l .image) (l .prg) (l .chr) a) v a
 
@@ -61,11 +59,11 @@ yes-or-no true = refl
 yes-or-no false = refl
 
 -- a clock of a board in range is never refused
-pub a-clock-is-not-refused : (b : Board) → inRange b ≡ true → isRefusal (answer b tick) ≡ false
+pub a-clock-is-not-refused : (b : Board) (l : Lent) → inRange b ≡ true → isRefusal (answer b l Clock) ≡ false
 unfolding answer clock acceptedClock
-a-clock-is-not-refused b ok = rw ok (yes-or-no _)
+a-clock-is-not-refused b l ok = rw ok (yes-or-no _)
 
-pub a-refused-write-completes-nothing : (b : Board) (l : Lent) (a v : ℕ) → accepts b l a ≡ false → made b (write l a v) ≡ Nothing
+pub a-refused-write-completes-nothing : (b : Board) (l : Lent) (a v : ℕ) → accepts b l a ≡ false → made b l (Write a v) ≡ Nothing
 unfolding made
 a-refused-write-completes-nothing b l a v e = rw e (off (isMapper (b .cart .mapper) Mmc1) (moveOf (b .registers .mmc1 .serial) v a))
   where
@@ -75,7 +73,7 @@ a-refused-write-completes-nothing b l a v e = rw e (off (isMapper (b .cart .mapp
 
 -- "serial write": one to 8000-FFFF without bit 7 that an MMC1 board accepts
 pub a-serial-write : (b : Board) (l : Lent) (a v : ℕ)
-    → isSerial (made b (write l a v)) ≡ (isMapper (b .cart .mapper) Mmc1 && accepts b l a && not (ltb a 0x8000) && not (isSigned v))
+    → isSerial (made b l (Write a v)) ≡ (isMapper (b .cart .mapper) Mmc1 && accepts b l a && not (ltb a 0x8000) && not (isSigned v))
 unfolding made moveOf
 a-serial-write b l a v =
     let s = b .registers .mmc1 .serial in
@@ -90,21 +88,21 @@ a-serial-write b l a v =
     go true false false true s r n = refl
     go true false false false s r n = refl
 
--- a call leaves in MMC1's registers what its move makes of them
-pub a-call-makes-its-move : (b : Board) → b .cart .mapper ≡ Mmc1 → (c : Call) → next b c .registers .mmc1 ≡ applied (b .cart .mode) (made b c) (b .registers .mmc1)
-a-call-makes-its-move b k c = ap (λ (x : Board). x .registers .mmc1) (next-is b k c)
+-- an event leaves in MMC1's registers what its move makes of them
+pub a-call-makes-its-move : (b : Board) → b .cart .mapper ≡ Mmc1 → (l : Lent) (e : Event) → next b l e .registers .mmc1 ≡ applied (b .cart .mode) (made b l e) (b .registers .mmc1)
+a-call-makes-its-move b k l e = ap (λ (x : Board). x .registers .mmc1) (next-is b k l e)
 
-on-mmc1 : (b : Board) (c : Call) (r : Register) (v : ℕ) → made b c ≡ Fill r v → b .cart .mapper ≡ Mmc1
+on-mmc1 : (b : Board) (l : Lent) (e : Event) (r : Register) (v : ℕ) → made b l e ≡ Fill r v → b .cart .mapper ≡ Mmc1
 unfolding made
-on-mmc1 b (read l a) r v e = absurd (no-load r v e)
-on-mmc1 b (write l a u) r v e =
+on-mmc1 b l (Read a) r v f = absurd (no-load r v f)
+on-mmc1 b l (Write a u) r v f =
     let own = isMapper (b .cart .mapper) Mmc1 in
-    is-this (b .cart .mapper) Mmc1 (and-left own (accepts b l a) (chosen (own && accepts b l a) (moveOf (b .registers .mmc1 .serial) u a) r v e .0))
-on-mmc1 b tick r v e = absurd (no-load r v e)
+    is-this (b .cart .mapper) Mmc1 (and-left own (accepts b l a) (chosen (own && accepts b l a) (moveOf (b .registers .mmc1 .serial) u a) r v f .0))
+on-mmc1 b l Clock r v f = absurd (no-load r v f)
 
 -- a completed load is stored as the board's own definition says, and the serial register is empty
-pub a-completed-load-is-stored : (b : Board) (c : Call) (r : Register) (v : ℕ) → made b c ≡ Fill r v
-    → next b c .registers .mmc1 ≡ record { serial = empty; regs = load (b .cart .mode) (b .registers .mmc1 .regs) r v }
+pub a-completed-load-is-stored : (b : Board) (l : Lent) (e : Event) (r : Register) (v : ℕ) → made b l e ≡ Fill r v
+    → next b l e .registers .mmc1 ≡ record { serial = empty; regs = load (b .cart .mode) (b .registers .mmc1 .regs) r v }
 unfolding applied
-a-completed-load-is-stored b c r v e =
-    a-call-makes-its-move b (on-mmc1 b c r v e) c ∙ ap (λ (k : Move). applied (b .cart .mode) k (b .registers .mmc1)) e
+a-completed-load-is-stored b l e r v f =
+    a-call-makes-its-move b (on-mmc1 b l e r v f) l e ∙ ap (λ (k : Move). applied (b .cart .mode) k (b .registers .mmc1)) f

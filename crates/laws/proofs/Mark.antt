@@ -11,34 +11,38 @@ use lib.ListN.{length, set, drop, length-set}
 use lib.Seq.{getD-set-other}
 use Rattle.common.specs.declared.Mode.{Mode}
 use Rattle.common.specs.declared.Mode.the-variants.{House, Board as OnBoard}
+use Rattle.common.specs.declared.Refusal.the-variants.{StateOutOfRange}
 use Rattle.memory.specs.Memory.{byte}
 use Rattle.cartridge.specs.Header.{isInes, headerOf, mirroringOf, isNes2}
-use Rattle.cartridge.specs.Load.{verdictOn, verdict, cartridgeOf, loadedAs, couldLoad, prgTotal, prgRom, chrRom}
+use Rattle.cartridge.specs.Load.{verdictOn, verdict, cartridgeOf, loadedAs, couldLoad, prgTotal, prgRom, chrRom, chrTotal}
 use Rattle.cartridge.specs.declared.Cartridge.{Cartridge}
 use Rattle.cartridge.specs.declared.MapperType.{MapperType}
 use Rattle.cartridge.specs.declared.MapperType.the-variants.{Nrom, Mmc1, Uxrom, Cnrom, Mmc3}
-use Rattle.cartridge.specs.declared.Refusal.the-variants.{StateOutOfRange}
 use Rattle.cartridge.specs.declared.Verdict.{Verdict}
 use Rattle.cartridge.specs.declared.Verdict.the-variants.{Take, Refuse}
-use Rattle.places.specs.Places.{byteOf}
+use Rattle.places.specs.Places.{inPrg, inChr, byteOf, byteAt}
+use Rattle.places.specs.Windows.{Window, landsIn}
+use Rattle.places.specs.Windows.Window.{Prg16K, Prg8K, Chr8K, Chr4K, Chr1K, PrgRam, ChrRam, Nothing, Refused as NoWindow}
 use Rattle.places.specs.declared.Place.{Place}
-use Rattle.places.specs.declared.Place.the-variants.{Prg, Chr, PrgRam, ChrRam, Zero, Refused}
+use Rattle.places.specs.declared.Place.the-variants.{Prg, Chr, PrgRam as InPrgRam, ChrRam as InChrRam, Nowhere}
+use Rattle.places.specs.declared.Landing.{Landing}
+use Rattle.places.specs.declared.Landing.the-variants.{At, Refused}
 use Rattle.boards.specs.Start.{startOf, loadedBoard}
 use Rattle.boards.specs.Range.{mirroringFits, inRange, isLoaded}
-use Rattle.boards.specs.Read.{readPlaceOn, readPlace}
+use Rattle.boards.specs.Read.{readWindowOn, readLanding}
 use Rattle.boards.specs.Read as reads
-use Rattle.boards.specs.Write.{writePlaceOn, writePlace, turned, acceptedWrite, writtenAs, landing}
-use Rattle.boards.specs.Clock.{acceptedClock}
-use Rattle.boards.specs.Clock as clocks
-use Rattle.boards.specs.Runs.{Lent, Call, next, answer, prgAfter, chrAfter, after, answers}
-use Rattle.boards.specs.Runs.Call.{read, write, clock}
+use Rattle.boards.specs.Write.{writeWindowOn, writeLanding, turned, acceptedWrite, writtenAs, landing}
+use Rattle.boards.specs.Clock.{acceptedClock, clock}
+use Rattle.boards.specs.Runs.{Lent, next, answer, left, Call, call, after, answers}
 use Rattle.boards.specs.declared.Board.{Board}
+use Rattle.boards.specs.declared.Event.{Event}
+use Rattle.boards.specs.declared.Event.the-variants.{Read, Write, Clock}
 use Rattle.boards.specs.declared.Registers.{Registers}
 use Rattle.boards.specs.declared.Clocked.{Clocked}
 use Rattle.boards.specs.declared.ClockAnswer.the-variants.{Refused as NotClocked}
 use Rattle.boards.specs.declared.LoadAnswer.the-variants.{Accepted}
 use Rattle.boards.specs.declared.Written.{Written}
-use Rattle.laws.specs.Mark.{marked, cartMarked, withByte7, callWith, SameLoad, SameCall, SameRun}
+use Rattle.laws.specs.Mark.{marked, cartMarked, withByte7, lentWith, callWith, SameLoad, SameCall, SameRun}
 use Rattle.laws.proofs.Opened.{opened}
 
 -- what a write or a clock leaves, with this mark
@@ -53,20 +57,32 @@ abbrev cartIn : Mode → Bool → Cartridge → Cartridge
 cartIn mode mark c =
     record { mode = mode; mapper = c .mapper; nes2 = mark; mirroring = c .mirroring; prg = c .prg; chr = c .chr; length = c .length }
 
--- places of reads and writes, by mode and mapper: the definitions look at other fields only
-place-alike : (mode : Mode) (k : MapperType) (x y : Bool) (r : Registers) (c : Cartridge) (a : ℕ)
-    → (readPlaceOn k r (cartIn mode x c) a ≡ readPlaceOn k r (cartIn mode y c) a) × (writePlaceOn k r (cartIn mode x c) a ≡ writePlaceOn k r (cartIn mode y c) a)
+-- what reads and writes find, by mode and mapper, and where they land: the definitions look at other fields only
+windows-alike : (mode : Mode) (k : MapperType) (x y : Bool) (r : Registers) (c : Cartridge) (a : ℕ)
+    → (readWindowOn k r (cartIn mode x c) a ≡ readWindowOn k r (cartIn mode y c) a) × (writeWindowOn k r (cartIn mode x c) a ≡ writeWindowOn k r (cartIn mode y c) a)
 unfolding opened
-place-alike House Nrom x y r c a = (refl, refl)
-place-alike House Mmc1 x y r c a = (refl, refl)
-place-alike House Uxrom x y r c a = (refl, refl)
-place-alike House Cnrom x y r c a = (refl, refl)
-place-alike House Mmc3 x y r c a = (refl, refl)
-place-alike OnBoard Nrom x y r c a = (refl, refl)
-place-alike OnBoard Mmc1 x y r c a = (refl, refl)
-place-alike OnBoard Uxrom x y r c a = (refl, refl)
-place-alike OnBoard Cnrom x y r c a = (refl, refl)
-place-alike OnBoard Mmc3 x y r c a = (refl, refl)
+windows-alike House Nrom x y r c a = (refl, refl)
+windows-alike House Mmc1 x y r c a = (refl, refl)
+windows-alike House Uxrom x y r c a = (refl, refl)
+windows-alike House Cnrom x y r c a = (refl, refl)
+windows-alike House Mmc3 x y r c a = (refl, refl)
+windows-alike OnBoard Nrom x y r c a = (refl, refl)
+windows-alike OnBoard Mmc1 x y r c a = (refl, refl)
+windows-alike OnBoard Uxrom x y r c a = (refl, refl)
+windows-alike OnBoard Cnrom x y r c a = (refl, refl)
+windows-alike OnBoard Mmc3 x y r c a = (refl, refl)
+
+lands-alike : (x : Bool) (c : Cartridge) (w : Window) (a : ℕ) → landsIn (cartMarked x c) w a ≡ landsIn c w a
+unfolding landsIn inPrg inChr chrTotal
+lands-alike x c (Prg16K n) a = refl
+lands-alike x c (Prg8K n) a = refl
+lands-alike x c (Chr8K n) a = refl
+lands-alike x c (Chr4K n) a = refl
+lands-alike x c (Chr1K n) a = refl
+lands-alike x c PrgRam a = refl
+lands-alike x c ChrRam a = refl
+lands-alike x c Nothing a = refl
+lands-alike x c (NoWindow why) a = refl
 
 -- what follows a place past byte 7 does not see it
 drop-set : (k i : ℕ) (s : List ℕ) (v : ℕ) → i < k → drop k (set s i v) ≡ drop k s
@@ -75,14 +91,18 @@ drop-set (suc k) i [] v h = refl
 drop-set (suc k) zero (x ∷ s) v h = refl
 drop-set (suc k) (suc i) (x ∷ s) v h = drop-set k i s v (le-of-suc-le-suc h)
 
--- the byte at a place
-byte-alike : (x : Bool) (v : ℕ) (c : Cartridge) (p : Place) (image prg chr : List ℕ) → byteOf (cartMarked x c) p (withByte7 v image) prg chr ≡ byteOf c p image prg chr
+-- the byte at a place, and where a read lands
+of-alike : (x : Bool) (v : ℕ) (c : Cartridge) (p : Place) (image prg chr : List ℕ) → byteOf (cartMarked x c) p (withByte7 v image) prg chr ≡ byteOf c p image prg chr
 unfolding byteOf prgRom chrRom
-byte-alike x v c (Prg i) image prg chr = ap (λ (t : List ℕ). byte t i) (drop-set 16 7 image v (omega arith))
-byte-alike x v c (Chr i) image prg chr = ap (λ (t : List ℕ). byte t i) (drop-set (16 + prgTotal c) 7 image v (omega arith))
-byte-alike x v c (PrgRam i) image prg chr = refl
-byte-alike x v c (ChrRam i) image prg chr = refl
-byte-alike x v c Zero image prg chr = refl
+of-alike x v c (Prg i) image prg chr = ap (λ (t : List ℕ). byte t i) (drop-set 16 7 image v (omega arith))
+of-alike x v c (Chr i) image prg chr = ap (λ (t : List ℕ). byte t i) (drop-set (16 + prgTotal c) 7 image v (omega arith))
+of-alike x v c (InPrgRam i) image prg chr = refl
+of-alike x v c (InChrRam i) image prg chr = refl
+of-alike x v c Nowhere image prg chr = refl
+
+byte-alike : (x : Bool) (v : ℕ) (c : Cartridge) (l : Landing) (image prg chr : List ℕ) → byteAt (cartMarked x c) l (withByte7 v image) prg chr ≡ byteAt c l image prg chr
+unfolding byteAt
+byte-alike x v c (At p) image prg chr = of-alike x v c p image prg chr
 byte-alike x v c (Refused why) image prg chr = refl
 
 -- one board and its likeness
@@ -91,13 +111,17 @@ module _ (x : Bool) (u : ℕ) (b : Board) where
   unfolding inRange couldLoad mirroringFits
   range-alike = refl
 
-  reads-alike : (a : ℕ) → readPlace (marked x b) a ≡ readPlace b a
-  unfolding readPlace
-  reads-alike a = place-alike (b .cart .mode) (b .cart .mapper) x (b .cart .nes2) (b .registers) (b .cart) a .0
+  reads-alike : (a : ℕ) → readLanding (marked x b) a ≡ readLanding b a
+  unfolding readLanding
+  reads-alike a =
+      lands-alike x (b .cart) _ a
+      ∙ ap (λ (w : Window). landsIn (b .cart) w a) (windows-alike (b .cart .mode) (b .cart .mapper) x (b .cart .nes2) (b .registers) (b .cart) a .0)
 
-  writes-alike : (a : ℕ) → writePlace (marked x b) a ≡ writePlace b a
-  unfolding writePlace
-  writes-alike a = place-alike (b .cart .mode) (b .cart .mapper) x (b .cart .nes2) (b .registers) (b .cart) a .1
+  writes-alike : (a : ℕ) → writeLanding (marked x b) a ≡ writeLanding b a
+  unfolding writeLanding
+  writes-alike a =
+      lands-alike x (b .cart) _ a
+      ∙ ap (λ (w : Window). landsIn (b .cart) w a) (windows-alike (b .cart .mode) (b .cart .mapper) x (b .cart .nes2) (b .registers) (b .cart) a .1)
 
   moves-alike : (v a : ℕ) → acceptedWrite (marked x b) v a ≡ written x (acceptedWrite b v a)
   unfolding acceptedWrite turned
@@ -113,60 +137,50 @@ module _ (x : Bool) (u : ℕ) (b : Board) where
   unfolding landing
   lands l a = simp (loaded (l .image), writes-alike)
 
-  leaves : (p : Place) (v a : ℕ) → writtenAs (marked x b) p v a ≡ written x (writtenAs b p v a)
+  leaves : (p : Landing) (v a : ℕ) → writtenAs (marked x b) p v a ≡ written x (writtenAs b p v a)
   unfolding writtenAs
   leaves (Refused why) v a = refl
-  leaves (Prg i) v a = moves-alike v a
-  leaves (Chr i) v a = moves-alike v a
-  leaves (PrgRam i) v a = moves-alike v a
-  leaves (ChrRam i) v a = moves-alike v a
-  leaves Zero v a = moves-alike v a
+  leaves (At p) v a = moves-alike v a
 
-  ticks-alike : clocks.clock (marked x b) ≡ clocked x (clocks.clock b)
-  unfolding clocks.clock acceptedClock
+  ticks-alike : clock (marked x b) ≡ clocked x (clock b)
+  unfolding clock acceptedClock
   ticks-alike = simp range-alike (go (inRange b))
     where
       go : (t : Bool) → cond t (acceptedClock (marked x b)) (record { board = marked x b; answer = NotClocked StateOutOfRange }) ≡ clocked x (cond t (acceptedClock b) (record { board = b; answer = NotClocked StateOutOfRange }))
       go true = refl
       go false = refl
 
-  answer-alike : (c : Call) → answer (marked x b) (callWith u c) ≡ answer b c
+  answer-alike : (l : Lent) (e : Event) → answer (marked x b) (lentWith u l) e ≡ answer b l e
   unfolding answer reads.read
-  answer-alike (read l a) = simp (loaded (l .image), reads-alike, byte-alike x u (b .cart))
-  answer-alike (write l a v) = simp (lands, leaves)
-  answer-alike clock = simp (ticks-alike)
+  answer-alike l (Read a) = simp (loaded (l .image), reads-alike, byte-alike x u (b .cart))
+  answer-alike l (Write a v) = simp (lands, leaves)
+  answer-alike l Clock = simp (ticks-alike)
 
-  next-alike : (c : Call) → next (marked x b) (callWith u c) ≡ marked x (next b c)
+  next-alike : (l : Lent) (e : Event) → next (marked x b) (lentWith u l) e ≡ marked x (next b l e)
   unfolding next
-  next-alike (read l a) = refl
-  next-alike (write l a v) =
-      ap (λ (p : Place). writtenAs (marked x b) p v a .board) (lands l a)
+  next-alike l (Read a) = refl
+  next-alike l (Write a v) =
+      ap (λ (p : Landing). writtenAs (marked x b) p v a .board) (lands l a)
       ∙ ap (λ (w : Written). w .board) (leaves (landing b (l .image) (l .prg) (l .chr) a) v a)
-  next-alike clock = ap (λ (t : Clocked). t .board) ticks-alike
+  next-alike l Clock = ap (λ (t : Clocked). t .board) ticks-alike
 
-  prg-alike : (c : Call) → prgAfter (marked x b) (callWith u c) ≡ prgAfter b c
-  unfolding prgAfter
-  prg-alike (read l a) = refl
-  prg-alike (write l a v) = simp (lands)
-  prg-alike clock = refl
-
-  chr-alike : (c : Call) → chrAfter (marked x b) (callWith u c) ≡ chrAfter b c
-  unfolding chrAfter
-  chr-alike (read l a) = refl
-  chr-alike (write l a v) = simp (lands)
-  chr-alike clock = refl
+  left-alike : (l : Lent) (e : Event) → left (marked x b) (lentWith u l) e ≡ lentWith u (left b l e)
+  unfolding left
+  left-alike l (Read a) = refl
+  left-alike l (Write a v) = simp (lands)
+  left-alike l Clock = refl
 
 -- a call
-pub mark-changes-no-call : (mark : Bool) (v : ℕ) (b : Board) (c : Call) → SameCall mark v b c
-mark-changes-no-call mark v b c =
-    record { the-answer = answer-alike mark v b c; the-next-board = next-alike mark v b c; prg-ram = prg-alike mark v b c; chr-ram = chr-alike mark v b c }
+pub mark-changes-no-call : (mark : Bool) (v : ℕ) (b : Board) (l : Lent) (e : Event) → SameCall mark v b l e
+mark-changes-no-call mark v b l e =
+    record { the-answer = answer-alike mark v b l e; the-next-board = next-alike mark v b l e; the-buffers = left-alike mark v b l e }
 
 run-alike : (x : Bool) (v : ℕ) (cs : List Call) (b : Board) → (answers (marked x b) (map (callWith v) cs) ≡ answers b cs) × (after (marked x b) (map (callWith v) cs) ≡ marked x (after b cs))
 unfolding answers after
 run-alike x v [] b = (refl, refl)
-run-alike x v (c ∷ cs) b =
-    let r = run-alike x v cs (next b c) in
-    (simp (answer-alike x v b, next-alike x v b, r .0), ap (λ (d : Board). after d (map (callWith v) cs)) (next-alike x v b c) ∙ r .1)
+run-alike x v (call l e ∷ cs) b =
+    let r = run-alike x v cs (next b l e) in
+    (simp (answer-alike x v b, next-alike x v b, r .0), ap (λ (d : Board). after d (map (callWith v) cs)) (next-alike x v b l e) ∙ r .1)
 
 -- a run of calls
 pub mark-changes-no-run : (mark : Bool) (v : ℕ) (b : Board) (cs : List Call) → SameRun mark v b cs

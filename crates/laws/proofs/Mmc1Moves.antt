@@ -1,14 +1,18 @@
--- On an MMC1 board a call leaves what its move makes, and two boards with one serial register make the same moves. Assumes nothing.
+-- On an MMC1 board an event leaves what its move makes, and two boards with one serial register make the same moves. Assumes nothing.
 use Prim.Native.Nat.{ℕ}
-use mathlib.Core.Path.{_≡_, refl, sym, ap, ap₂, _∙_, subst₂, subst⁻¹}
+use mathlib.Core.Path.{_≡_, refl, sym, ap, ap₂, _∙_, subst⁻¹}
 use mathlib.Core.Bool.{Bool, true, false, cond, _&&_}
 use native.Mathlib.Omega.{arith}
+use Rattle.rules.proofs.Bools.{either}
 use Rattle.common.specs.declared.Mode.{Mode}
 use Rattle.common.specs.declared.Mode.the-variants.{House, Board as OnBoard}
-use Rattle.cartridge.specs.Answers.{isMapper}
+use Rattle.cartridge.specs.Mappers.{isMapper}
 use Rattle.cartridge.specs.declared.Cartridge.{Cartridge}
 use Rattle.cartridge.specs.declared.MapperType.{MapperType}
 use Rattle.cartridge.specs.declared.MapperType.the-variants.{Mmc1}
+use Rattle.places.specs.Windows.{landsIn, houseChr, inWindows}
+use Rattle.places.specs.Windows.Window.{Nothing as NoWindow}
+use Rattle.places.specs.declared.Landing.{Landing}
 use Rattle.mmc1.specs.Read as mmc1
 use Rattle.mmc1.specs.Write.{moveOf, reset, storedChr0, storedChr1, load, applied, mirrorsOf, written}
 use Rattle.mmc1.specs.declared.Mmc1 as mmc1-type
@@ -18,16 +22,18 @@ use Rattle.mmc1.specs.declared.Register.{Register}
 use Rattle.mmc1.specs.declared.Register.the-variants.{Control, Chr0, Chr1, Prg}
 use Rattle.boards.specs.Registers.{withMmc1, moved, ticked}
 use Rattle.boards.specs.Range.{inRange}
-use Rattle.boards.specs.Write.{writePlaceOn, writePlace, nextMirroring, withRegisters, turned, acceptedWrite, landing}
+use Rattle.boards.specs.Write.{writeWindowOn, writeLanding, nextMirroring, withRegisters, turned, acceptedWrite, landing}
 use Rattle.boards.specs.Clock.{acceptedClock, clock}
-use Rattle.boards.specs.Runs.{Call, next}
-use Rattle.boards.specs.Runs.Call.{read, write, clock as tick}
+use Rattle.boards.specs.Runs.{Lent, next}
 use Rattle.boards.specs.declared.Board.{Board}
+use Rattle.boards.specs.declared.Event.{Event}
+use Rattle.boards.specs.declared.Event.the-variants.{Read, Write, Clock}
 use Rattle.boards.specs.declared.Clocked.{Clocked}
+use Rattle.laws.specs.Calls.{OneImage}
 use Rattle.laws.specs.Loads.{isAccepted, accepts, made}
-use Rattle.laws.proofs.Cases.{either, alike}
+use Rattle.laws.proofs.Cases.{alike}
 use Rattle.laws.proofs.Accepting.{board-alike, accepted-alike, after-write}
-use Rattle.laws.proofs.Ranges.{next-in-range, next-keeps-cart}
+use Rattle.laws.proofs.OneImage.{swapped, next-one}
 
 abbrev pub boardAfter : Move → Mode → Board → Board
 boardAfter k m b =
@@ -47,19 +53,19 @@ module _ (b : Board) (is-mmc1 : b .cart .mapper ≡ Mmc1) where
   unfolding acceptedWrite turned moved written
   moved-is v a = ap (λ (k : MapperType). turned b (moved k (b .cart .mode) (b .registers) v a) .board) is-mmc1
 
-  pub own-move : (l : _) (a v : ℕ) → made b (write l a v) ≡ cond (accepts b l a) (moveOf (b .registers .mmc1 .serial) v a) Nothing
+  pub own-move : (l : Lent) (a v : ℕ) → made b l (Write a v) ≡ cond (accepts b l a) (moveOf (b .registers .mmc1 .serial) v a) Nothing
   unfolding made isMapper
   own-move l a v = ap (λ (k : MapperType). cond (isMapper k Mmc1 && accepts b l a) (moveOf (b .registers .mmc1 .serial) v a) Nothing) is-mmc1
 
-  -- a call leaves what its move makes
-  pub next-is : (c : Call) → next b c ≡ boardAfter (made b c) (b .cart .mode) b
+  -- an event leaves what its move makes
+  pub next-is : (l : Lent) (e : Event) → next b l e ≡ boardAfter (made b l e) (b .cart .mode) b
   unfolding next made clock acceptedClock ticked isMapper
-  next-is (read l a) = same-screens (b .cart .mode) b
-  next-is (write l a v) =
+  next-is l (Read a) = same-screens (b .cart .mode) b
+  next-is l (Write a v) =
       after-write b (landing b (l .image) (l .prg) (l .chr) a) v a
       ∙ alike (λ (x : Board) (k : Move). x ≡ boardAfter k (b .cart .mode) b) (accepts b l a) (moved-is v a) (same-screens (b .cart .mode) b)
       ∙ ap (λ (k : Move). boardAfter k (b .cart .mode) b) (sym (own-move l a v))
-  next-is tick =
+  next-is l Clock =
       either (λ (r : Clocked). r .board ≡ b) (inRange b) (ap (λ (k : MapperType). withRegisters b (ticked k (b .cart .mode) (b .registers) .registers)) is-mmc1) refl
       ∙ same-screens (b .cart .mode) b
 
@@ -136,55 +142,49 @@ module _ (x y : mmc1-type.Mmc1) where
 
 -- what two boards have in common from the bit 7 write on
 pub record Common (b d : Board) : Type 0 where
-  pub cart : b .cart ≡ d .cart
-  pub is-mmc1 : b .cart .mapper ≡ Mmc1
-  pub first : inRange b ≡ true
-  pub second : inRange d ≡ true
+  pub one : OneImage Mmc1 b d
   pub serial : b .registers .mmc1 .serial ≡ d .registers .mmc1 .serial
 
 module _ {b d : Board} (r : Common b d) where
-  pub second-mmc1 : d .cart .mapper ≡ Mmc1
-  second-mmc1 = ap (λ (c : Cartridge). c .mapper) (sym (r .cart)) ∙ r .is-mmc1
+  -- where a write of this mode lands
+  abbrev lands : Mode → Board → ℕ → Landing
+  lands mode e a = landsIn (e .cart) (mmc1.writeWindowIn mode (e .registers .mmc1) (e .cart) a) a
 
-  place-is : (e : Board) → e .cart .mapper ≡ Mmc1 → (a : ℕ) → writePlace e a ≡ mmc1.writePlaceIn (e .cart .mode) (e .registers .mmc1) (e .cart) a
-  unfolding writePlace writePlaceOn
-  place-is e h a = subst⁻¹ (λ (k : MapperType). writePlaceOn k (e .registers) (e .cart) a ≡ mmc1.writePlaceIn (e .cart .mode) (e .registers .mmc1) (e .cart) a) h refl
+  lands-there : (mode : Mode) (e : Board) → e .cart .mapper ≡ Mmc1 → e .cart .mode ≡ mode → (a : ℕ) → writeLanding e a ≡ lands mode e a
+  unfolding writeLanding writeWindowOn
+  lands-there mode e h f a =
+      ap (λ (k : MapperType). landsIn (e .cart) (writeWindowOn k (e .registers) (e .cart) a) a) h ∙ ap (λ (m : Mode). lands m e a) f
 
   -- house mode looks at the cartridge alone
-  place-alike : (m : Mode) → b .cart .mode ≡ m → (a : ℕ) → isAccepted (writePlace b a) ≡ isAccepted (writePlace d a)
-  unfolding mmc1.writePlaceIn mmc1.ppuWriteIn mmc1.romWriteIn
-  place-alike House e a =
+  landing-alike : (m : Mode) → b .cart .mode ≡ m → (a : ℕ) → isAccepted (writeLanding b a) ≡ isAccepted (writeLanding d a)
+  unfolding mmc1.writeWindowIn mmc1.ppuWriteIn mmc1.romWriteIn
+  landing-alike House e a =
       ap isAccepted
-      (place-is b (r .is-mmc1) a
-      ∙ ap (λ (m : Mode). mmc1.writePlaceIn m (b .registers .mmc1) (b .cart) a) e
-      ∙ ap (λ (c : Cartridge). mmc1.writePlaceIn House (b .registers .mmc1) c a) (r .cart)
-      ∙ sym (ap (λ (m : Mode). mmc1.writePlaceIn m (d .registers .mmc1) (d .cart) a) (ap (λ (c : Cartridge). c .mode) (sym (r .cart)) ∙ e))
-      ∙ sym (place-is d second-mmc1 a))
-  place-alike OnBoard e a = board-alike b d (r .cart) (r .first) (r .second) e a
+      (lands-there House b (r .one .mapper) e a
+      ∙ ap (λ (c : Cartridge). landsIn c (inWindows (houseChr c) NoWindow a) a) (r .one .cart)
+      ∙ sym (lands-there House d (swapped (r .one) .mapper) (ap (λ (c : Cartridge). c .mode) (sym (r .one .cart)) ∙ e) a))
+  landing-alike OnBoard e a = board-alike (r .one) e a
 
   -- both boards accept a write or both refuse it, so both make the same move
-  pub one-move : (c : Call) → made b c ≡ made d c
+  pub one-move : (l : Lent) (e : Event) → made b l e ≡ made d l e
   unfolding made
-  one-move (read l a) = refl
-  one-move (write l a v) =
-      let both = accepted-alike b d (r .cart) (r .first) (r .second) l a (place-alike (b .cart .mode) refl a) in
-      λ i. cond (isMapper (r .cart i .mapper) Mmc1 && both i) (moveOf (r .serial i) v a) Nothing
-  one-move tick = refl
+  one-move l (Read a) = refl
+  one-move l (Write a v) =
+      let both = accepted-alike (r .one) l a (landing-alike (b .cart .mode) refl a) in
+      λ i. cond (isMapper (r .one .cart i .mapper) Mmc1 && both i) (moveOf (r .serial i) v a) Nothing
+  one-move l Clock = refl
 
-  -- what holds after one move in one mode holds after the call
-  pub by-move : (Q : Board → Board → Type 0) (c : Call) → Q (boardAfter (made b c) (b .cart .mode) b) (boardAfter (made b c) (b .cart .mode) d) → Q (next b c) (next d c)
-  by-move Q c =
-      subst₂ Q (sym (next-is b (r .is-mmc1) c))
-      (ap₂ (λ (k : Move) (x : Cartridge). boardAfter k (x .mode) d) (one-move c) (r .cart) ∙ sym (next-is d second-mmc1 c))
+  -- what is one after one move in one mode is one after the event
+  pub by-move : {A : Type 0} (g : Board → A) (l : Lent) (e : Event) → g (boardAfter (made b l e) (b .cart .mode) b) ≡ g (boardAfter (made b l e) (b .cart .mode) d) → g (next b l e) ≡ g (next d l e)
+  by-move g l e h =
+      ap g (next-is b (r .one .mapper) l e) ∙ h
+      ∙ ap g (ap₂ (λ (k : Move) (x : Cartridge). boardAfter k (x .mode) d) (one-move l e) (r .one .cart) ∙ sym (next-is d (swapped (r .one) .mapper) l e))
 
-  pub next-common : (c : Call) → Common (next b c) (next d c)
-  next-common c =
+  pub next-common : (l : Lent) (e : Event) → Common (next b l e) (next d l e)
+  next-common l e =
       record {
-        cart = next-keeps-cart b c ∙ r .cart ∙ sym (next-keeps-cart d c);
-        is-mmc1 = ap (λ (x : Cartridge). x .mapper) (next-keeps-cart b c) ∙ r .is-mmc1;
-        first = next-in-range b c (r .first);
-        second = next-in-range d c (r .second);
+        one = next-one (r .one) l e;
         serial =
-            by-move (λ (x y : Board). x .registers .mmc1 .serial ≡ y .registers .mmc1 .serial) c
-            (one-serial (b .registers .mmc1) (d .registers .mmc1) (b .cart .mode) (made b c) (r .serial));
+            by-move (λ (x : Board). x .registers .mmc1 .serial) l e
+            (one-serial (b .registers .mmc1) (d .registers .mmc1) (b .cart .mode) (made b l e) (r .serial));
       }

@@ -5,7 +5,7 @@ use mathlib.Core.Bool.{true, cond}
 use native.Mathlib.Omega.{arith}
 use lib.Dec.{ltb, eqb}
 use borrow.Author.Tests.{ltb-true, eqb-true, lt-ltb, eq-eqb}
-use Rattle.rules.proofs.Bools.{and-left, and-right, split-3, split-5}
+use Rattle.rules.proofs.Bools.{and-left, and-right, split-3, split-5, either}
 use Rattle.common.specs.Common.{isSigned}
 use Rattle.common.specs.declared.Mode.{Mode}
 use Rattle.common.specs.declared.Mode.the-variants.{House, Board}
@@ -18,7 +18,7 @@ use Rattle.mmc1.specs.declared.Move.{Move}
 use Rattle.mmc1.specs.declared.Move.the-variants.{Nothing, Clear, Enter, Fill}
 use Rattle.mmc1.specs.declared.Register.{Register}
 use Rattle.mmc1.specs.declared.Register.the-variants.{Control, Chr0, Chr1, Prg}
-use Rattle.laws.proofs.Cases.{either, by-test}
+use Rattle.laws.proofs.Cases.{by-test}
 
 -- five bits, whatever the byte
 below-32 : (v w : ℕ) → v < 32 → v / 2 + 16 * (w % 2) < 32

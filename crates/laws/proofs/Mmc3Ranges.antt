@@ -8,11 +8,11 @@ use native.Mathlib.Omega.{arith}
 use lib.Dec.{ltb, eqb}
 use lib.ListN.{getD, set}
 use borrow.Author.Tests.{ltb-true, eqb-true, lt-ltb, le-ltb, le-leb, eq-eqb}
-use Rattle.rules.proofs.Bools.{split-3, split-5}
+use Rattle.rules.proofs.Bools.{split-3, split-5, either}
+use Rattle.common.specs.Answers.{isHeaders}
 use Rattle.common.specs.declared.Mode.{Mode}
-use Rattle.cartridge.specs.Load.{isHeaders}
-use Rattle.cartridge.specs.declared.Mirrors.{Mirrors}
-use Rattle.cartridge.specs.declared.Mirrors.the-variants.{AsBefore, As}
+use Rattle.common.specs.declared.Mirrors.{Mirrors}
+use Rattle.common.specs.declared.Mirrors.the-variants.{AsBefore, As}
 use Rattle.mmc3.specs.Clock.{withIrq, clocked, clockIn}
 use Rattle.mmc3.specs.Read.{register}
 use Rattle.mmc3.specs.Write.{moveOf, keptBits, applied, screens, mirrorsOf, written}
@@ -21,7 +21,6 @@ use Rattle.mmc3.specs.declared.Irq.{Irq}
 use Rattle.mmc3.specs.declared.Mmc3.{Mmc3}
 use Rattle.mmc3.specs.declared.Move.{Move}
 use Rattle.mmc3.specs.declared.Move.the-variants.{Nothing, Select, Data, Screens, Latch, Reload, Enable, Disable}
-use Rattle.laws.proofs.Cases.{either}
 
 -- after a store an element is as it was, or it is the one stored
 get-set : (l : List ℕ) (i x k : ℕ) → (getD (set l i x) k 0 ≡ getD l k 0) ⊎ ((k ≡ i) × (getD (set l i x) k 0 ≡ x))

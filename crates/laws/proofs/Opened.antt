@@ -1,9 +1,11 @@
 -- Every definition opened at once, for theorems that compute a whole run: `unfolding opened` opens what the line below names. Assumes nothing.
+use Rattle.common.specs.Answers as answers
 use Rattle.banks.specs.Banks as banks
 use Rattle.cartridge.specs.Header as header
 use Rattle.cartridge.specs.Load as load
-use Rattle.cartridge.specs.Answers as answers
+use Rattle.cartridge.specs.Mappers as mappers
 use Rattle.places.specs.Places as places
+use Rattle.places.specs.Windows as windows
 use Rattle.nrom.specs.Nrom as nrom
 use Rattle.uxrom.specs.Uxrom as uxrom
 use Rattle.cnrom.specs.Cnrom as cnrom
@@ -25,5 +27,5 @@ use Rattle.boards.specs.Runs as runs
 use Rattle.laws.specs.Loads as loads
 
 unfoldable pub opened : Unit {0}
-unfolding banks.shown banks.startAt banks.bankStart banks.bankOf header.isInes header.headerOf header.headerAnswer header.headerRead header.mirroringOf load.isPower load.badPrg load.oddCounts load.firstOf load.verdictOn load.verdict load.mapperType load.cartridgeOf load.loadedAs load.ramAfter load.lastPrg load.chrTotal load.prgRom load.chrRom load.chrData load.couldLoad answers.same answers.isMapper places.prgAt places.chrAt places.prgPlace places.chrPlace places.inWindows places.housePpuWrite places.byteOf places.answerAt places.storedPrg places.storedChr nrom.secondBlock nrom.fixedPrg nrom.readPlace nrom.houseWritePlace nrom.writePlaceIn uxrom.readPlace uxrom.writePlaceIn uxrom.written cnrom.housePrg cnrom.houseReadPlace cnrom.boardReadPlace cnrom.readPlaceIn cnrom.houseWritePlace cnrom.writePlaceIn cnrom.written mmc1-write.registerAt mmc1-write.moveOf mmc1-write.reset mmc1-write.storedChr0 mmc1-write.storedChr1 mmc1-write.load mmc1-write.applied mmc1-write.controlMirroring mmc1-write.mirrorsOf mmc1-write.written mmc1-read.prgPair mmc1-read.chrPair mmc1-read.lowerPrg mmc1-read.upperPrg mmc1-read.lowerChr mmc1-read.upperChr mmc1-read.chrBank mmc1-read.prgBank mmc1-read.chrAt mmc1-read.prgAt mmc1-read.readPlace mmc1-read.ppuWriteIn mmc1-read.romWriteIn mmc1-read.writePlaceIn mmc1-read.lowerPrgBank mmc1-read.upperPrgBank mmc1-read.lowerChrBank mmc1-read.upperChrBank mmc1-range.isUnused mmc1-range.serialFits mmc1-range.regsFits mmc1-range.fits mmc3-clock.houseClock mmc3-clock.nextCounter mmc3-clock.boardClock mmc3-clock.clockIn mmc3-clock.withIrq mmc3-clock.clocked mmc3-write.moveOf mmc3-write.keptBits mmc3-write.applied mmc3-write.screens mmc3-write.mirrorsOf mmc3-write.written mmc3-read.choice mmc3-read.register mmc3-read.chrBank mmc3-read.lastBank mmc3-read.lastButOne mmc3-read.prgBank mmc3-read.chrAt mmc3-read.prgAt mmc3-read.readPlace mmc3-read.acknowledged mmc3-read.ppuWriteIn mmc3-read.romWriteIn mmc3-read.writePlaceIn mmc3-range.start mmc3-range.irqIsStart mmc3-range.isStart mmc3-range.fits registers.mmc1Start registers.start registers.partFits registers.fits registers.moved registers.ticked start.startOf start.nothing start.loadedBoard range.turnedFit range.screensFit range.mirroringFits range.inRange range.isLoaded range.ramsFit range.guarded read.readPlaceOn read.readPlace read.read write.writePlaceOn write.writePlace write.againstIn write.nextMirroring write.noticeUnless write.notice write.turned write.acceptedWrite write.writtenAs write.landing clock.yesNo clock.acceptedClock clock.clock numbers.refused numbers.readNumber numbers.writeNumber numbers.clockNumber numbers.loadNumber runs.next runs.answer runs.prgAfter runs.chrAfter runs.after runs.answers loads.isAccepted loads.made loads.moves
+unfolding banks.shown banks.startAt banks.bankStart banks.bankOf header.isInes header.headerOf header.headerAnswer header.headerRead header.mirroringOf load.isPower load.badPrg load.oddCounts load.firstOf load.verdictOn load.verdict mappers.mapperType load.cartridgeOf load.loadedAs load.ramAfter load.lastPrg load.chrTotal load.prgRom load.chrRom load.chrData load.couldLoad answers.same mappers.isMapper places.prgAt places.chrAt places.inPrg places.inChr places.byteOf places.byteAt places.answerAt places.storedPrg places.storedChr windows.landsIn windows.fixedBlock windows.fixedPrg windows.houseChr windows.houseChrRam windows.inWindows nrom.readWindow nrom.writeWindowIn uxrom.readWindow uxrom.writeWindowIn uxrom.written cnrom.housePrg cnrom.houseReadWindow cnrom.boardReadWindow cnrom.readWindowIn cnrom.houseWriteWindow cnrom.writeWindowIn cnrom.written mmc1-write.registerAt mmc1-write.moveOf mmc1-write.reset mmc1-write.storedChr0 mmc1-write.storedChr1 mmc1-write.load mmc1-write.applied mmc1-write.controlMirroring mmc1-write.mirrorsOf mmc1-write.written mmc1-read.prgPair mmc1-read.chrPair mmc1-read.lowerPrg mmc1-read.upperPrg mmc1-read.lowerChr mmc1-read.upperChr mmc1-read.chrBank mmc1-read.prgBank mmc1-read.readWindow mmc1-read.ppuWriteIn mmc1-read.romWriteIn mmc1-read.writeWindowIn mmc1-read.lowerPrgBank mmc1-read.upperPrgBank mmc1-read.lowerChrBank mmc1-read.upperChrBank mmc1-range.isUnused mmc1-range.serialFits mmc1-range.regsFits mmc1-range.fits mmc3-clock.houseClock mmc3-clock.nextCounter mmc3-clock.boardClock mmc3-clock.clockIn mmc3-clock.withIrq mmc3-clock.clocked mmc3-write.moveOf mmc3-write.keptBits mmc3-write.applied mmc3-write.screens mmc3-write.mirrorsOf mmc3-write.written mmc3-read.choice mmc3-read.register mmc3-read.chrBank mmc3-read.lastBank mmc3-read.lastButOne mmc3-read.prgBank mmc3-read.readWindow mmc3-read.acknowledged mmc3-read.ppuWriteIn mmc3-read.romWriteIn mmc3-read.writeWindowIn mmc3-range.start mmc3-range.irqIsStart mmc3-range.isStart mmc3-range.fits registers.mmc1Start registers.start registers.partFits registers.fits registers.moved registers.ticked start.startOf start.nothing start.loadedBoard range.turnedFit range.screensFit range.mirroringFits range.inRange range.isLoaded load.ramsFit range.guarded read.readWindowOn read.readLanding read.read write.writeWindowOn write.writeLanding write.againstIn write.nextMirroring write.noticeUnless write.notice write.turned write.acceptedWrite write.writtenAs write.landing clock.yesNo clock.acceptedClock clock.clock numbers.refused numbers.readNumber numbers.writeNumber numbers.clockNumber numbers.loadNumber runs.next runs.answer runs.left runs.after runs.answers runs.stepped runs.played runs.ended loads.isAccepted loads.made loads.moves
 opened = tt

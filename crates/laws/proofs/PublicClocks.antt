@@ -7,32 +7,27 @@ use mathlib.Core.Bool.{Bool, true, false}
 use Rattle.common.specs.declared.Mode.{Mode}
 use Rattle.common.specs.declared.Mode.the-variants.{House, Board as OnBoard}
 use Rattle.cartridge.specs.declared.Cartridge.{Cartridge}
+use Rattle.cartridge.specs.declared.MapperType.the-variants.{Mmc3}
 use Rattle.mmc3.specs.Clock as mmc3-clock
 use Rattle.mmc3.specs.declared.Irq.{Irq}
-use Rattle.boards.specs.Clock as clocks
-use Rattle.boards.specs.Runs.{answer, next}
-use Rattle.boards.specs.Runs.Call.{clock}
-use Rattle.boards.specs.Runs.Answer.{toClock}
+use Rattle.boards.specs.Clock.{yesNo}
 use Rattle.boards.specs.declared.Board.{Board}
-use Rattle.boards.specs.declared.ClockAnswer.{ClockAnswer}
+use Rattle.laws.specs.Calls.{OneImage}
 use Rattle.laws.specs.Clocks.{Plays, Ready, ticked, isYes, saysYes}
 use Rattle.laws.specs.SettlesMmc3.{Arming, armed, Accepts}
-use Rattle.laws.proofs.Arming.{tick-irq, tick-answer, cart₃, irq₃, ok₃, mapper₃}
+use Rattle.laws.proofs.Arming.{tick-irq, tick-answer, armed-one, armed-irq}
 use Rattle.laws.proofs.Clocks.{unitAfter, unitSays, ready, house-clocks, board-clocks}
-use Rattle.laws.proofs.Ranges.{next-in-range, next-keeps-cart}
+use Rattle.laws.proofs.OneImage.{clock-one}
 
-plays-on : {mode : Mode} {b : Board} → Plays mode b → Plays mode (next b clock)
-plays-on {mode} {b} p =
-    let k = next-keeps-cart b clock in
-    record {
-      in-mode = ap (λ (t : Cartridge). t .mode) k ∙ p .in-mode;
-      is-mmc3 = ap (λ (t : Cartridge). t .mapper) k ∙ p .is-mmc3;
-      in-range = next-in-range b clock (p .in-range);
-    }
+itself : {mode : Mode} {b : Board} → Plays mode b → OneImage Mmc3 b b
+itself p = record { cart = refl; mapper = p .is-mmc3; first = p .in-range; second = p .in-range }
+
+plays-on : {mode : Mode} {b d : Board} → Plays mode d → OneImage Mmc3 b d → Plays mode b
+plays-on p o = record { in-mode = ap (λ (t : Cartridge). t .mode) (o .cart) ∙ p .in-mode; is-mmc3 = o .mapper; in-range = o .first }
 
 plays-ticked : {mode : Mode} {b : Board} → Plays mode b → (k : ℕ) → Plays mode (ticked k b)
 plays-ticked p zero = p
-plays-ticked p (suc k) = plays-on (plays-ticked p k)
+plays-ticked p (suc k) = let q = plays-ticked p k in plays-on q (clock-one (itself q))
 
 -- after k clocks the board has the unit that k clocks leave
 follows : {mode : Mode} {b : Board} → Plays mode b → (k : ℕ) → ticked k b .registers .mmc3 .irq ≡ unitAfter mode k (b .registers .mmc3 .irq)
@@ -43,18 +38,17 @@ follows {mode} {b} p (suc k) =
     ∙ ap (λ (m : Mode). mmc3-clock.clockIn m (ticked k b .registers .mmc3 .irq) .irq) (q .in-mode)
     ∙ ap (λ (u : Irq). mmc3-clock.clockIn mode u .irq) (follows p k)
 
-yes-no : (t : Bool) → isYes (toClock (clocks.yesNo t)) ≡ t
-unfolding clocks.yesNo
+yes-no : (t : Bool) → isYes (yesNo t) ≡ t
+unfolding yesNo
 yes-no true = refl
 yes-no false = refl
 
 -- and answers as that unit does
 says : {mode : Mode} {b : Board} → Plays mode b → (k : ℕ) → saysYes k b ≡ unitSays mode k (b .registers .mmc3 .irq)
-unfolding answer
 says p zero = refl
 says {mode} {b} p (suc k) =
     let q = plays-ticked p k in
-    ap (λ (a : ClockAnswer). isYes (toClock a)) (tick-answer (ticked k b) (q .in-range) (q .is-mmc3))
+    ap isYes (tick-answer (ticked k b) (q .in-range) (q .is-mmc3))
     ∙ yes-no (mmc3-clock.clockIn (ticked k b .cart .mode) (ticked k b .registers .mmc3 .irq) .answer)
     ∙ ap (λ (m : Mode). mmc3-clock.clockIn m (ticked k b .registers .mmc3 .irq) .answer) (q .in-mode)
     ∙ ap (λ (u : Irq). mmc3-clock.clockIn mode u .answer) (follows p k)
@@ -83,14 +77,9 @@ board-rule b n k r l =
 -- "With latch n, reload and enable written": accepted writes to any of their addresses, each with its own buffers, make a board ready
 pub written-ready : (mode : Mode) (b : Board) → Plays mode b → (w : Arming) → Accepts b w → Ready mode (w .latch .byte) (armed b w)
 written-ready mode b p w a =
-    let u = irq₃ b (p .in-range) (p .is-mmc3) w a in
+    let u = armed-irq (itself p) w a in
     record {
-      plays =
-          record {
-            in-mode = ap (λ (c : Cartridge). c .mode) (cart₃ b (p .in-range) (p .is-mmc3) w a) ∙ p .in-mode;
-            is-mmc3 = mapper₃ b (p .in-range) (p .is-mmc3) w a;
-            in-range = ok₃ b (p .in-range) (p .is-mmc3) w a;
-          };
+      plays = plays-on p (armed-one (itself p) w);
       latch = ap (λ (x : Irq). x .latch) u;
       reload = ap (λ (x : Irq). x .reload) u;
       enabled = ap (λ (x : Irq). x .enabled) u;

@@ -8,17 +8,18 @@ use native.Mathlib.Omega.{arith}
 use lib.Dec.{ltb, leb, eqb}
 use lib.ListN.{length}
 use borrow.Author.Tests.{ltb-false, lt-ltb, le-leb, eq-eqb}
-use Rattle.rules.proofs.Bools.{and-right, and-both, split-3, split-4}
+use Rattle.rules.proofs.Bools.{and-right, and-both, split-3, split-4, either}
+use Rattle.common.specs.Answers.{mirroringLetter, same, isHeaders}
 use Rattle.common.specs.declared.Mode.{Mode}
 use Rattle.common.specs.declared.Mode.the-variants.{House, Board as OnBoard}
+use Rattle.common.specs.declared.Mirroring.{Mirroring}
+use Rattle.common.specs.declared.Mirrors.{Mirrors}
+use Rattle.common.specs.declared.Mirrors.the-variants.{AsBefore, As}
 use Rattle.memory.specs.Memory.{byte}
-use Rattle.cartridge.specs.Answers.{mapperNumber, isMapper, mirroringLetter, same}
 use Rattle.cartridge.specs.Header.{headerOf, isInes, mapperOf, isSpecial, mirroringOf}
-use Rattle.cartridge.specs.Load.{badPrg, oddCounts, needed, isHeaders, couldLoad, firstOf, verdictOn, verdict, mapperType, cartridgeOf, loadedAs}
+use Rattle.cartridge.specs.Load.{badPrg, oddCounts, needed, couldLoad, firstOf, verdictOn, ramsFit, verdict, cartridgeOf, loadedAs}
+use Rattle.cartridge.specs.Mappers.{mapperNumber, isMapper, mapperType}
 use Rattle.cartridge.specs.declared.Cartridge.{Cartridge}
-use Rattle.cartridge.specs.declared.Mirroring.{Mirroring}
-use Rattle.cartridge.specs.declared.Mirrors.{Mirrors}
-use Rattle.cartridge.specs.declared.Mirrors.the-variants.{AsBefore, As}
 use Rattle.cartridge.specs.declared.MapperType.{MapperType}
 use Rattle.cartridge.specs.declared.MapperType.the-variants.{Nrom, Mmc1, Uxrom, Cnrom, Mmc3}
 use Rattle.cartridge.specs.declared.Verdict.{Verdict}
@@ -37,15 +38,16 @@ use Rattle.boards.specs.Start.{startOf, loadedBoard}
 use Rattle.boards.specs.Range.{turnedFit, screensFit, mirroringFits, inRange, isLoaded}
 use Rattle.boards.specs.Write.{nextMirroring, turned, acceptedWrite, landing}
 use Rattle.boards.specs.Clock.{acceptedClock, clock}
-use Rattle.boards.specs.Runs.{Call, next, after}
-use Rattle.boards.specs.Runs.Call.{read, write, clock as tick}
+use Rattle.boards.specs.Runs.{Lent, next, Call, call, after}
 use Rattle.boards.specs.declared.Board.{Board}
+use Rattle.boards.specs.declared.Event.{Event}
+use Rattle.boards.specs.declared.Event.the-variants.{Read, Write, Clock}
 use Rattle.boards.specs.declared.Registers.{Registers}
 use Rattle.boards.specs.declared.Ticked.{Ticked}
 use Rattle.boards.specs.declared.Clocked.{Clocked}
 use Rattle.boards.specs.declared.LoadAnswer.the-variants.{Accepted}
 use Rattle.laws.specs.Loads.{accepts}
-use Rattle.laws.proofs.Cases.{either, by-test}
+use Rattle.laws.proofs.Cases.{by-test}
 use Rattle.laws.proofs.Accepting.{after-write}
 use Rattle.laws.proofs.Mmc1Ranges as mmc1-ranges
 use Rattle.laws.proofs.Mmc3Ranges as mmc3-ranges
@@ -170,23 +172,23 @@ clock-in b h =
     let p = three b h in
     join (join (p .0) (ticked-fits (b .cart .mapper) (b .cart .mode) (b .registers) (p .1))) (p .2)
 
--- what an accepted write and an accepted clock keep, every call keeps
-every-call : (P : Board → Type 0) (b : Board) → ((v a : ℕ) → P (acceptedWrite b v a .board)) → P (acceptedClock b .board) → P b → (c : Call) → P (next b c)
+-- what an accepted write and an accepted clock keep, every event keeps
+every-event : (P : Board → Type 0) (b : Board) → ((v a : ℕ) → P (acceptedWrite b v a .board)) → P (acceptedClock b .board) → P b → (l : Lent) (e : Event) → P (next b l e)
 unfolding next clock
-every-call P b moves ticks stays (read l a) = stays
-every-call P b moves ticks stays (write l a v) =
+every-event P b moves ticks stays l (Read a) = stays
+every-event P b moves ticks stays l (Write a v) =
     subst⁻¹ P (after-write b (landing b (l .image) (l .prg) (l .chr) a) v a) (either P (accepts b l a) (moves v a) stays)
-every-call P b moves ticks stays tick = either (λ (r : Clocked). P (r .board)) (inRange b) ticks stays
+every-event P b moves ticks stays l Clock = either (λ (r : Clocked). P (r .board)) (inRange b) ticks stays
 
--- the board after any call
-pub next-in-range : (b : Board) (c : Call) → inRange b ≡ true → inRange (next b c) ≡ true
-next-in-range b c h = every-call (λ (x : Board). inRange x ≡ true) b (λ v a. write-in b v a h) (clock-in b h) h c
+-- the board after any event
+pub next-in-range : (b : Board) (l : Lent) (e : Event) → inRange b ≡ true → inRange (next b l e) ≡ true
+next-in-range b l e h = every-event (λ (x : Board). inRange x ≡ true) b (λ v a. write-in b v a h) (clock-in b h) h l e
 
 -- and after any list of calls
 pub run-in-range : (b : Board) (cs : List Call) → inRange b ≡ true → inRange (after b cs) ≡ true
 unfolding after
 run-in-range b [] h = h
-run-in-range b (c ∷ cs) h = run-in-range (next b c) cs (next-in-range b c h)
+run-in-range b (call l e ∷ cs) h = run-in-range (next b l e) cs (next-in-range b l e h)
 
 -- an accepted load found none of its refusals
 taken : (b9 b3 b4 b5 b6 b7 b8 : Bool) → firstOf b9 b3 b4 b5 b6 b7 b8 ≡ Take → (b4 ≡ false) × (b6 ≡ false) × (b7 ≡ false) × (b8 ≡ false)
@@ -218,7 +220,7 @@ could-load : (s : List ℕ) (mode : Mode) (p c : ℕ) → byte s 4 < 256 → byt
 unfolding verdict verdictOn couldLoad cartridgeOf headerOf mirroringOf
 could-load s mode p c h4 h5 e =
     let h = headerOf s in
-    let t = taken (not (eqb p 8192 && eqb c 8192)) (ltb (length s) 16400 || not (isInes s)) (ltb 4 (mapperOf h)) (isSpecial h) (badPrg (mapperOf h) (h .prg)) (ltb (length s) (needed (h .prg) (h .chr))) (oddCounts mode (h .prg) (h .chr)) e in
+    let t = taken (not (ramsFit p c)) (ltb (length s) 16400 || not (isInes s)) (ltb 4 (mapperOf h)) (isSpecial h) (badPrg (mapperOf h) (h .prg)) (ltb (length s) (needed (h .prg) (h .chr))) (oddCounts mode (h .prg) (h .chr)) e in
     join
     (join
     (join
@@ -267,15 +269,15 @@ pub load-in-range : (s : List ℕ) (mode : Mode) (p c : ℕ) → byte s 4 < 256 
     → inRange (startOf (cartridgeOf (headerOf s) mode (length s))) ≡ true
 load-in-range s mode p c h4 h5 e = start-in-range (cartridgeOf (headerOf s) mode (length s)) (could-load s mode p c h4 h5 e)
 
--- no call changes what was loaded
-pub next-keeps-cart : (b : Board) (c : Call) → next b c .cart ≡ b .cart
+-- no event changes what was loaded
+pub next-keeps-cart : (b : Board) (l : Lent) (e : Event) → next b l e .cart ≡ b .cart
 unfolding acceptedWrite turned acceptedClock
-next-keeps-cart b c = every-call (λ (x : Board). x .cart ≡ b .cart) b (λ v a. refl) refl refl c
+next-keeps-cart b l e = every-event (λ (x : Board). x .cart ≡ b .cart) b (λ v a. refl) refl refl l e
 
 pub run-keeps-cart : (b : Board) (cs : List Call) → after b cs .cart ≡ b .cart
 unfolding after
 run-keeps-cart b [] = refl
-run-keeps-cart b (c ∷ cs) = run-keeps-cart (next b c) cs ∙ next-keeps-cart b c
+run-keeps-cart b (call l e ∷ cs) = run-keeps-cart (next b l e) cs ∙ next-keeps-cart b l e
 
 -- a board that only calls have touched since its load is never refused by 10: it stays in range, and so does the length that it was loaded with
 pub never-refused-by-10 : (b : Board) (cs : List Call) (length : ℕ) → inRange b ≡ true → length ≡ b .cart .length → isLoaded (after b cs) length ≡ true

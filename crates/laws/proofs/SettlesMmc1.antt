@@ -9,15 +9,16 @@ use native.Mathlib.Omega.{arith}
 use lib.Dec.{ltb, eqb}
 use lib.ListN.{take}
 use borrow.Author.Tests.{ltb-false, le-ltb, eqb-true}
-use Rattle.rules.proofs.Bools.{split-3}
+use Rattle.rules.proofs.Bools.{split-3, either}
 use Rattle.common.specs.Common.{isSigned}
+use Rattle.common.specs.Answers.{same, mirroringLetter, isHeaders}
 use Rattle.common.specs.declared.Mode.{Mode}
 use Rattle.common.specs.declared.Mode.the-variants.{House, Board as OnBoard}
-use Rattle.cartridge.specs.Answers.{same, mirroringLetter, isMapper}
-use Rattle.cartridge.specs.Load.{couldLoad, isHeaders}
+use Rattle.common.specs.declared.Mirroring.{Mirroring}
+use Rattle.common.specs.declared.Mirroring.the-variants.{Horizontal, Vertical, SingleScreenUpper, SingleScreenLower}
+use Rattle.cartridge.specs.Load.{couldLoad}
+use Rattle.cartridge.specs.Mappers.{isMapper}
 use Rattle.cartridge.specs.declared.Cartridge.{Cartridge}
-use Rattle.cartridge.specs.declared.Mirroring.{Mirroring}
-use Rattle.cartridge.specs.declared.Mirroring.the-variants.{Horizontal, Vertical, SingleScreenUpper, SingleScreenLower}
 use Rattle.cartridge.specs.declared.MapperType.the-variants.{Mmc1}
 use Rattle.mmc1.specs.Write.{empty, moveOf, storedChr0, storedChr1, load, applied, mirrorsOf}
 use Rattle.mmc1.specs.declared.Mmc1 as mmc1-type
@@ -29,22 +30,24 @@ use Rattle.mmc1.specs.declared.Serial.{Serial}
 use Rattle.boards.specs.Registers.{fits}
 use Rattle.boards.specs.Range.{inRange, screensFit, mirroringFits}
 use Rattle.boards.specs.Write.{nextMirroring}
-use Rattle.boards.specs.Runs.{Call, next, after}
-use Rattle.boards.specs.Runs.Call.{read, write, clock as tick}
+use Rattle.boards.specs.Runs.{Lent, next, Call, call, after}
 use Rattle.boards.specs.declared.Board.{Board}
-use Rattle.laws.specs.Calls.{OneImage, Write, SameCalls}
+use Rattle.boards.specs.declared.Event.{Event}
+use Rattle.boards.specs.declared.Event.the-variants.{Read, Write, Clock}
+use Rattle.laws.specs.Calls.{OneImage, LentWrite, wrote, SameCalls}
 use Rattle.laws.specs.Loads.{accepts, made, moves}
-use Rattle.laws.specs.SettlesMmc1.{Clears, cleared, moveAt, isSerial, serialWrites, Settled, Agree, Settles}
-use Rattle.laws.proofs.Cases.{either, by-test}
+use Rattle.laws.specs.SettlesMmc1.{Clears, moveAt, isSerial, serialWrites, Settled, Agree, Settles}
+use Rattle.laws.proofs.Cases.{by-test}
 use Rattle.laws.proofs.Positions.{same-after, same-moves, Kept, Makes, Any, once, twice}
-use Rattle.laws.proofs.Ranges.{next-in-range, next-keeps-cart, run-in-range, run-keeps-cart}
+use Rattle.laws.proofs.Ranges.{next-keeps-cart}
+use Rattle.laws.proofs.OneImage.{swapped, after-one, wrote-one}
 use Rattle.laws.proofs.Mmc1Moves.{boardAfter, own-move, next-is, no-load, chosen, one-prgmode, one-chrmode, one-chr0, one-chr1, one-prg, Common, one-move, by-move, next-common}
-use Rattle.laws.proofs.Mmc1Answers.{Alike, answers-alike, played-alike, left-alike}
+use Rattle.laws.proofs.Mmc1Answers.{Alike, answers-alike, played-alike, ended-alike}
 
 one-moves : {b d : Board} → Common b d → (cs : List Call) → moves b cs ≡ moves d cs
 unfolding moves
 one-moves r [] = refl
-one-moves r (c ∷ cs) = ap₂ _∷_ (one-move r c) (one-moves (next-common r c) cs)
+one-moves r (call l e ∷ cs) = ap₂ _∷_ (one-move r l e) (one-moves (next-common r l e) cs)
 
 -- a mirroring is known by its letter
 named : ℕ → Mirroring
@@ -90,79 +93,79 @@ record Program (b d : Board) : Type 0 where
 
 -- one move keeps each of them
 keep-common : Kept Common
-keep-common b d r c = next-common r c
+keep-common b d r l e = next-common r l e
 
 keep-modes : Kept Modes
-keep-modes b d r c =
-    let k = made b c in
+keep-modes b d r l e =
+    let k = made b l e in
     let m = b .cart .mode in
     let x = b .registers .mmc1 in
     let y = d .registers .mmc1 in
     record {
-      common = next-common (r .common) c;
-      prgmode = by-move (r .common) (λ (x y : Board). x .registers .mmc1 .regs .prgmode ≡ y .registers .mmc1 .regs .prgmode) c (one-prgmode x y m k (r .prgmode));
-      chrmode = by-move (r .common) (λ (x y : Board). x .registers .mmc1 .regs .chrmode ≡ y .registers .mmc1 .regs .chrmode) c (one-chrmode x y m k (r .chrmode));
-      mirroring = by-move (r .common) (λ (x y : Board). x .mirroring ≡ y .mirroring) c (ap (λ (s : Mirroring). nextMirroring m s (mirrorsOf k)) (r .mirroring));
+      common = next-common (r .common) l e;
+      prgmode = by-move (r .common) (λ (x : Board). x .registers .mmc1 .regs .prgmode) l e (one-prgmode x y m k (r .prgmode));
+      chrmode = by-move (r .common) (λ (x : Board). x .registers .mmc1 .regs .chrmode) l e (one-chrmode x y m k (r .chrmode));
+      mirroring = by-move (r .common) (λ (x : Board). x .mirroring) l e (ap (λ (s : Mirroring). nextMirroring m s (mirrorsOf k)) (r .mirroring));
     }
 
 keep-first : Kept First
-keep-first b d r c =
+keep-first b d r l e =
     record {
-      modes = keep-modes b d (r .modes) c;
+      modes = keep-modes b d (r .modes) l e;
       chr0 =
-          by-move (r .modes .common) (λ (x y : Board). x .registers .mmc1 .regs .chr0 ≡ y .registers .mmc1 .regs .chr0) c
-          (one-chr0 (b .registers .mmc1) (d .registers .mmc1) (b .cart .mode) (made b c) (r .modes .chrmode) (r .chr0));
+          by-move (r .modes .common) (λ (x : Board). x .registers .mmc1 .regs .chr0) l e
+          (one-chr0 (b .registers .mmc1) (d .registers .mmc1) (b .cart .mode) (made b l e) (r .modes .chrmode) (r .chr0));
     }
 
 keep-second : Kept Second
-keep-second b d r c =
+keep-second b d r l e =
     record {
-      modes = keep-modes b d (r .modes) c;
+      modes = keep-modes b d (r .modes) l e;
       chr1 =
-          by-move (r .modes .common) (λ (x y : Board). x .registers .mmc1 .regs .chr1 ≡ y .registers .mmc1 .regs .chr1) c
-          (one-chr1 (b .registers .mmc1) (d .registers .mmc1) (b .cart .mode) (made b c) (r .modes .chrmode) (r .chr1));
+          by-move (r .modes .common) (λ (x : Board). x .registers .mmc1 .regs .chr1) l e
+          (one-chr1 (b .registers .mmc1) (d .registers .mmc1) (b .cart .mode) (made b l e) (r .modes .chrmode) (r .chr1));
     }
 
 keep-program : Kept Program
-keep-program b d r c =
+keep-program b d r l e =
     record {
-      common = next-common (r .common) c;
+      common = next-common (r .common) l e;
       prg =
-          by-move (r .common) (λ (x y : Board). x .registers .mmc1 .regs .prg ≡ y .registers .mmc1 .regs .prg) c
-          (one-prg (b .registers .mmc1) (d .registers .mmc1) (b .cart .mode) (made b c) (r .prg));
+          by-move (r .common) (λ (x : Board). x .registers .mmc1 .regs .prg) l e
+          (one-prg (b .registers .mmc1) (d .registers .mmc1) (b .cart .mode) (made b l e) (r .prg));
     }
 
 -- what a load makes of the boards, read off its move
-module _ {b d : Board} (r : Common b d) (w : Register) (c : Call) (v : ℕ) (e : made b c ≡ Fill w v) where
-  by-load : (Q : Board → Board → Type 0) → Q (boardAfter (Fill w v) (b .cart .mode) b) (boardAfter (Fill w v) (b .cart .mode) d) → Q (next b c) (next d c)
-  by-load Q h = by-move r Q c (subst⁻¹ (λ (k : Move). Q (boardAfter k (b .cart .mode) b) (boardAfter k (b .cart .mode) d)) e h)
+module _ {b d : Board} (r : Common b d) (w : Register) (l : Lent) (e : Event) (v : ℕ) (f : made b l e ≡ Fill w v) where
+  by-load : {A : Type 0} (g : Board → A) → g (boardAfter (Fill w v) (b .cart .mode) b) ≡ g (boardAfter (Fill w v) (b .cart .mode) d) → g (next b l e) ≡ g (next d l e)
+  by-load g h = by-move r g l e (subst⁻¹ (λ (k : Move). g (boardAfter k (b .cart .mode) b) ≡ g (boardAfter k (b .cart .mode) d)) f h)
 
 -- a control load on the real board sets the mirroring, and in house mode both boards have the header's
 screens : {b d : Board} → Common b d → (v : ℕ) (m : Mode) → b .cart .mode ≡ m → nextMirroring m (b .mirroring) (mirrorsOf (Fill Control v)) ≡ nextMirroring m (d .mirroring) (mirrorsOf (Fill Control v))
 unfolding nextMirroring mirrorsOf
 screens {b} {d} r v House e =
-    house-screens b (r .first) e ∙ ap (λ (c : Cartridge). c .mirroring) (r .cart)
-    ∙ sym (house-screens d (r .second) (ap (λ (c : Cartridge). c .mode) (sym (r .cart)) ∙ e))
+    house-screens b (r .one .first) e ∙ ap (λ (c : Cartridge). c .mirroring) (r .one .cart)
+    ∙ sym (house-screens d (r .one .second) (ap (λ (c : Cartridge). c .mode) (sym (r .one .cart)) ∙ e))
 screens r v OnBoard e = refl
 
 control-makes : Makes Common Any Control Modes
 unfolding applied load
-control-makes b d r x c v e =
+control-makes b d r x l e v f =
     record {
-      common = next-common r c;
-      prgmode = by-load r Control c v e (λ (x y : Board). x .registers .mmc1 .regs .prgmode ≡ y .registers .mmc1 .regs .prgmode) refl;
-      chrmode = by-load r Control c v e (λ (x y : Board). x .registers .mmc1 .regs .chrmode ≡ y .registers .mmc1 .regs .chrmode) refl;
-      mirroring = by-load r Control c v e (λ (x y : Board). x .mirroring ≡ y .mirroring) (screens r v (b .cart .mode) refl);
+      common = next-common r l e;
+      prgmode = by-load r Control l e v f (λ (x : Board). x .registers .mmc1 .regs .prgmode) refl;
+      chrmode = by-load r Control l e v f (λ (x : Board). x .registers .mmc1 .regs .chrmode) refl;
+      mirroring = by-load r Control l e v f (λ (x : Board). x .mirroring) (screens r v (b .cart .mode) refl);
     }
 
 -- CHR 0 is stored by the CHR mode of the moment, which a control load has made one
 chr0-makes : Makes Modes Any Chr0 First
 unfolding applied load
-chr0-makes b d r x c v e =
+chr0-makes b d r x l e v f =
     record {
-      modes = keep-modes b d r c;
+      modes = keep-modes b d r l e;
       chr0 =
-          by-load (r .common) Chr0 c v e (λ (x y : Board). x .registers .mmc1 .regs .chr0 ≡ y .registers .mmc1 .regs .chr0)
+          by-load (r .common) Chr0 l e v f (λ (x : Board). x .registers .mmc1 .regs .chr0)
           (ap (λ (n : ℕ). storedChr0 (b .cart .mode) n v) (r .chrmode));
     }
 
@@ -177,26 +180,26 @@ wide-stored OnBoard n old v e = refl
 
 chr1-makes : Makes Modes Wide Chr1 Second
 unfolding applied load
-chr1-makes b d r x c v e =
+chr1-makes b d r x l e v f =
     let m = b .cart .mode in
     record {
-      modes = keep-modes b d r c;
+      modes = keep-modes b d r l e;
       chr1 =
-          by-load (r .common) Chr1 c v e (λ (x y : Board). x .registers .mmc1 .regs .chr1 ≡ y .registers .mmc1 .regs .chr1)
+          by-load (r .common) Chr1 l e v f (λ (x : Board). x .registers .mmc1 .regs .chr1)
           (wide-stored m (b .registers .mmc1 .regs .chrmode) (b .registers .mmc1 .regs .chr1) v x
           ∙ sym (wide-stored m (d .registers .mmc1 .regs .chrmode) (d .registers .mmc1 .regs .chr1) v (sym (r .chrmode) ∙ x)));
     }
 
 prg-makes : Makes Common Any Prg Program
 unfolding applied load
-prg-makes b d r x c v e =
-    record { common = next-common r c; prg = by-load r Prg c v e (λ (x y : Board). x .registers .mmc1 .regs .prg ≡ y .registers .mmc1 .regs .prg) refl }
+prg-makes b d r x l e v f =
+    record { common = next-common r l e; prg = by-load r Prg l e v f (λ (x : Board). x .registers .mmc1 .regs .prg) refl }
 
 -- the four loads make the boards one
 settles : (b d : Board) → Common b d → (cs : List Call) → Settled b cs → Agree (after b cs) (after d cs)
 settles b d r cs s =
     record {
-      cart = first .modes .common .cart;
+      cart = first .modes .common .one .cart;
       mirroring = first .modes .mirroring;
       mmc1 = λ i. record {
         serial = first .modes .common .serial i;
@@ -224,27 +227,22 @@ settles b d r cs s =
     program = once Common Program keep-common keep-program Any Prg prg-makes b d r cs (s .prg) (s .prg-load) tt
 
 -- a bit 7 write clears, so the two serial registers are one
-clear-move : (w : Write) (b : Board) → b .cart .mapper ≡ Mmc1 → Clears w b → made b (write (w .lent) (w .address) (w .byte)) ≡ Clear
+clear-move : (w : LentWrite) (b : Board) → b .cart .mapper ≡ Mmc1 → Clears w b → made b (w .lent) (Write (w .address) (w .byte)) ≡ Clear
 unfolding moveOf
 clear-move w b e p =
     own-move b e (w .lent) (w .address) (w .byte) ∙ rw (p .accepted, le-ltb (w .address) 0x8000 (p .to-8000-FFFF), p .bit-7) refl
 
-emptied : (w : Write) (b : Board) → b .cart .mapper ≡ Mmc1 → Clears w b → cleared w b .registers .mmc1 .serial ≡ empty
+emptied : (w : LentWrite) (b : Board) → b .cart .mapper ≡ Mmc1 → Clears w b → wrote b w .registers .mmc1 .serial ≡ empty
 unfolding applied
 emptied w b e p =
-    ap (λ (x : Board). x .registers .mmc1 .serial) (next-is b e (write (w .lent) (w .address) (w .byte)))
+    ap (λ (x : Board). x .registers .mmc1 .serial) (next-is b e (w .lent) (Write (w .address) (w .byte)))
     ∙ ap (λ (k : Move). applied (b .cart .mode) k (b .registers .mmc1) .serial) (clear-move w b e p)
 
-start-common : (b d : Board) → OneImage Mmc1 b d → (w u : Write) → Clears w b → Clears u d → Common (cleared w b) (cleared u d)
+start-common : (b d : Board) → OneImage Mmc1 b d → (w u : LentWrite) → Clears w b → Clears u d → Common (wrote b w) (wrote d u)
 start-common b d one w u p q =
-    let c = write (w .lent) (w .address) (w .byte) in
-    let e = write (u .lent) (u .address) (u .byte) in
     record {
-      cart = next-keeps-cart b c ∙ one .cart ∙ sym (next-keeps-cart d e);
-      is-mmc1 = ap (λ (x : Cartridge). x .mapper) (next-keeps-cart b c) ∙ one .mapper;
-      first = next-in-range b c (one .first);
-      second = next-in-range d e (one .second);
-      serial = emptied w b (one .mapper) p ∙ sym (emptied u d (ap (λ (x : Cartridge). x .mapper) (sym (one .cart)) ∙ one .mapper) q);
+      one = swapped (wrote-one (swapped (wrote-one one w)) u);
+      serial = emptied w b (one .mapper) p ∙ sym (emptied u d (swapped one .mapper) q);
     }
 
 -- a move counts up by one at most, and only as a serial write
@@ -257,16 +255,16 @@ counts m x v a =
     either (Counts m x) (ltb a 0x8000) (omega arith)
     (either (Counts m x) (isSigned v) (omega arith) (either (Counts m x) (ltb (x .serial .count) 4) (omega arith) (omega arith)))
 
-counted : (b : Board) → b .cart .mapper ≡ Mmc1 → (c : Call) → Counts (b .cart .mode) (b .registers .mmc1) (made b c)
+counted : (b : Board) → b .cart .mapper ≡ Mmc1 → (l : Lent) (e : Event) → Counts (b .cart .mode) (b .registers .mmc1) (made b l e)
 unfolding made applied
-counted b e (read l a) = omega arith
-counted b e (write l a v) =
+counted b h l (Read a) = omega arith
+counted b h l (Write a v) =
     let P = Counts (b .cart .mode) (b .registers .mmc1) in
-    subst⁻¹ P (own-move b e l a v) (either P (accepts b l a) (counts (b .cart .mode) (b .registers .mmc1) v a) (omega arith))
-counted b e tick = omega arith
+    subst⁻¹ P (own-move b h l a v) (either P (accepts b l a) (counts (b .cart .mode) (b .registers .mmc1) v a) (omega arith))
+counted b h l Clock = omega arith
 
-next-count : (b : Board) → b .cart .mapper ≡ Mmc1 → (c : Call) → next b c .registers .mmc1 .serial .count ≤ b .registers .mmc1 .serial .count + cond (isSerial (made b c)) 1 0
-next-count b e c = subst⁻¹ (λ (x : Board). x .registers .mmc1 .serial .count ≤ b .registers .mmc1 .serial .count + cond (isSerial (made b c)) 1 0) (next-is b e c) (counted b e c)
+next-count : (b : Board) → b .cart .mapper ≡ Mmc1 → (l : Lent) (e : Event) → next b l e .registers .mmc1 .serial .count ≤ b .registers .mmc1 .serial .count + cond (isSerial (made b l e)) 1 0
+next-count b h l e = subst⁻¹ (λ (x : Board). x .registers .mmc1 .serial .count ≤ b .registers .mmc1 .serial .count + cond (isSerial (made b l e)) 1 0) (next-is b h l e) (counted b h l e)
 
 -- where a register is filled, four bits were there
 full : (s : Serial) (v a : ℕ) (r : Register) (u : ℕ) → moveOf s v a ≡ Fill r u → 4 ≤ s .count
@@ -279,48 +277,42 @@ full s v a r u =
     Full : Move → Type 0
     Full k = k ≡ Fill r u → 4 ≤ s .count
 
-fifth : (b : Board) (c : Call) (r : Register) (v : ℕ) → made b c ≡ Fill r v → 4 ≤ b .registers .mmc1 .serial .count
+fifth : (b : Board) (l : Lent) (e : Event) (r : Register) (v : ℕ) → made b l e ≡ Fill r v → 4 ≤ b .registers .mmc1 .serial .count
 unfolding made
-fifth b (read l a) r v e = absurd (no-load r v e)
-fifth b (write l a u) r v e =
+fifth b l (Read a) r v f = absurd (no-load r v f)
+fifth b l (Write a u) r v f =
     let s = b .registers .mmc1 .serial in
-    full s u a r v (chosen (isMapper (b .cart .mapper) Mmc1 && accepts b l a) (moveOf s u a) r v e .1)
-fifth b tick r v e = absurd (no-load r v e)
+    full s u a r v (chosen (isMapper (b .cart .mapper) Mmc1 && accepts b l a) (moveOf s u a) r v f .1)
+fifth b l Clock r v f = absurd (no-load r v f)
 
 fifth-at : (b : Board) → b .cart .mapper ≡ Mmc1 → (cs : List Call) (i : ℕ) (r : Register) (v : ℕ) → moveAt b cs i ≡ Fill r v
     → 5 ≤ b .registers .mmc1 .serial .count + serialWrites (take (suc i) (moves b cs))
 unfolding moves
-fifth-at b e [] i r v h = absurd (no-load r v h)
-fifth-at b e (c ∷ cs) zero r v h = rw h (omega (arith, fifth b c r v h))
-fifth-at b e (c ∷ cs) (suc i) r v h =
-    omega (arith, next-count b e c, fifth-at (next b c) (ap (λ (x : Cartridge). x .mapper) (next-keeps-cart b c) ∙ e) cs i r v h)
+fifth-at b m [] i r v h = absurd (no-load r v h)
+fifth-at b m (call l e ∷ cs) zero r v h = rw h (omega (arith, fifth b l e r v h))
+fifth-at b m (call l e ∷ cs) (suc i) r v h =
+    omega (arith, next-count b m l e, fifth-at (next b l e) (ap (λ (x : Cartridge). x .mapper) (next-keeps-cart b l e) ∙ m) cs i r v h)
 
 -- two boards of one image, cleared by bit 7 writes that they accept, and the same calls
-pub mmc1-settles : (b d : Board) → OneImage Mmc1 b d → (w u : Write) → Clears w b → Clears u d → (cs ds : List Call) → SameCalls cs ds
-    → Settles (cleared w b) (cleared u d) cs ds
+pub mmc1-settles : (b d : Board) → OneImage Mmc1 b d → (w u : LentWrite) → Clears w b → Clears u d → (cs ds : List Call) → SameCalls cs ds
+    → Settles (wrote b w) (wrote d u) cs ds
 mmc1-settles b d one w u p q cs ds same-calls =
     record {
-      the-same-loads = one-moves common cs ∙ same-moves (cleared u d) cs ds same-calls;
+      the-same-loads = one-moves common cs ∙ same-moves (wrote d u) cs ds same-calls;
       none-before-the-fifth = λ i r l.
           rw (add-one i)
-          (omega (arith, ap (λ (s : Serial). s .count) (emptied w b (one .mapper) p), fifth-at (cleared w b) (common .is-mmc1) cs i r (l .bits) (l .done)));
+          (omega (arith, ap (λ (s : Serial). s .count) (emptied w b (one .mapper) p), fifth-at (wrote b w) (common .one .mapper) cs i r (l .bits) (l .done)));
       the-boards-agree = agree;
       later-answers-agree = λ s l es. played-alike (alike s) l es;
-      rams-stay-equal = λ s l es. left-alike (alike s) l es;
+      rams-stay-equal = λ s l es. ended-alike (alike s) l es;
       whatever-is-lent = λ s later. answers-alike (alike s) later;
     }
   where
-    common : Common (cleared w b) (cleared u d)
+    common : Common (wrote b w) (wrote d u)
     common = start-common b d one w u p q
 
-    agree : Settled (cleared w b) cs → Agree (after (cleared w b) cs) (after (cleared u d) ds)
-    agree s = subst (Agree (after (cleared w b) cs)) (same-after (cleared u d) cs ds same-calls) (settles (cleared w b) (cleared u d) common cs s)
+    agree : Settled (wrote b w) cs → Agree (after (wrote b w) cs) (after (wrote d u) ds)
+    agree s = subst (Agree (after (wrote b w) cs)) (same-after (wrote d u) cs ds same-calls) (settles (wrote b w) (wrote d u) common cs s)
 
-    alike : Settled (cleared w b) cs → Alike (after (cleared w b) cs) (after (cleared u d) ds)
-    alike s =
-        record {
-          agree = agree s;
-          is-mmc1 = ap (λ (x : Cartridge). x .mapper) (run-keeps-cart (cleared w b) cs) ∙ common .is-mmc1;
-          first = run-in-range (cleared w b) cs (common .first);
-          second = run-in-range (cleared u d) ds (common .second);
-        }
+    alike : Settled (wrote b w) cs → Alike (after (wrote b w) cs) (after (wrote d u) ds)
+    alike s = record { agree = agree s; one = after-one (common .one) cs ds }

@@ -2,36 +2,39 @@
 -- apart: each is computed. Assumes nothing.
 use Prim.Native.Nat.{ℕ, _/_, _%_}
 use mathlib.Core.Path.{_≡_, refl}
-use mathlib.Core.List.{List, [], _∷_, _++_}
+use mathlib.Core.List.{List, [], _∷_, _++_, map}
 use native.Mathlib.Omega.{arith}
 use lib.ListN.{replicate}
 use Rattle.common.specs.declared.Mode.{Mode}
 use Rattle.common.specs.declared.Mode.the-variants.{House, Board as OnBoard}
+use Rattle.common.specs.declared.Mirroring.{Mirroring}
+use Rattle.common.specs.declared.Mirroring.the-variants.{Vertical, SingleScreenUpper}
+use Rattle.common.specs.declared.Refusal.the-variants.{BankPastData}
 use Rattle.cartridge.specs.declared.MapperType.the-variants.{Mmc1}
-use Rattle.cartridge.specs.declared.Mirroring.{Mirroring}
-use Rattle.cartridge.specs.declared.Mirroring.the-variants.{Vertical, SingleScreenUpper}
-use Rattle.cartridge.specs.declared.Refusal.the-variants.{BankPastData}
+use Rattle.places.specs.declared.ReadAnswer.the-variants.{Byte, Refused}
 use Rattle.mmc1.specs.declared.Move.the-variants.{Fill}
 use Rattle.mmc1.specs.declared.Register.the-variants.{Control, Chr0, Chr1, Prg}
-use Rattle.places.specs.declared.ReadAnswer.the-variants.{Byte, Refused}
 use Rattle.boards.specs.Registers.{withMmc1}
-use Rattle.boards.specs.Runs.{Lent, Call, Answer, after, answers}
-use Rattle.boards.specs.Runs.Call.{read, write, clock}
-use Rattle.boards.specs.Runs.Answer.{toRead}
+use Rattle.boards.specs.Runs as runs
+use Rattle.boards.specs.Runs.{Lent, Call, call, after, answers}
 use Rattle.boards.specs.declared.Board.{Board}
-use Rattle.laws.specs.Calls.{History, reached, OneImage, Write, SameCalls}
-use Rattle.laws.specs.PLines.{mmc1 as mmc1-image, ram, loadOf}
-use Rattle.laws.specs.SettlesMmc1.{Clears, cleared, moveAt, bit4At, Settled, Agree}
+use Rattle.boards.specs.declared.Event.{Event}
+use Rattle.boards.specs.declared.Event.the-variants.{Read, Write, Clock}
+use Rattle.boards.specs.declared.Answer.{Answer}
+use Rattle.boards.specs.declared.Answer.the-variants.{Read as toRead}
+use Rattle.laws.specs.Calls.{History, reached, OneImage, LentWrite, wrote, SameCalls}
+use Rattle.laws.specs.PLines.{mmc1 as mmc1-image, ram, loadOf, withRams, callsOf}
+use Rattle.laws.specs.SettlesMmc1.{Clears, moveAt, bit4At, Settled, Agree}
 use Rattle.laws.proofs.Histories.{any-two-histories}
 use Rattle.laws.proofs.SettlesMmc1.{mmc1-settles}
 use Rattle.laws.proofs.Opened.{opened}
 
 -- buffers for one board, and of the same lengths for the other
 abbrev lent : Lent
-lent = record { image = mmc1-image; prg = ram; chr = ram }
+lent = withRams mmc1-image
 
 abbrev others : Lent
-others = record { image = mmc1-image; prg = replicate 8192 7; chr = replicate 8192 9 }
+others = runs.lent mmc1-image (replicate 8192 7) (replicate 8192 9)
 
 -- a board as it is loaded, and one in the midst of a game, with three bits in its serial register
 abbrev fresh : Mode → Board
@@ -51,23 +54,18 @@ used mode =
     }
 
 -- the bit 7 write, for each with its own buffers
-abbrev bit7 : Lent → Write
+abbrev bit7 : Lent → LentWrite
 bit7 l = record { lent = l; address = 0x9000; byte = 0x80 }
 
 -- five bits for one register
-abbrev five : Lent → ℕ → ℕ → List Call
-five l a v = write l a (v % 2) ∷ write l a (v / 2 % 2) ∷ write l a (v / 4 % 2) ∷ write l a (v / 8 % 2) ∷ write l a (v / 16) ∷ []
+abbrev five : ℕ → ℕ → List Event
+five a v = Write a (v % 2) ∷ Write a (v / 2 % 2) ∷ Write a (v / 4 % 2) ∷ Write a (v / 8 % 2) ∷ Write a (v / 16) ∷ []
 
 -- a refused write, a read, a clock, then PRG 7, control 16, CHR 1 6 and CHR 0 5
 abbrev calls : Lent → List Call
 calls l =
-    write (record { image = l .image; prg = []; chr = l .chr }) 0x8000 1
-    ∷ read l 0x8000
-    ∷ clock
-    ∷ five l 0xE000 7
-    ++ five l 0x8000 16
-    ++ five l 0xC000 6
-    ++ five l 0xA000 5
+    call (runs.lent (l .image) [] (l .chr)) (Write 0x8000 1)
+    ∷ map (call l) (Read 0x8000 ∷ Clock ∷ five 0xE000 7 ++ five 0x8000 16 ++ five 0xC000 6 ++ five 0xA000 5)
 
 pub met-image : (mode : Mode) → OneImage Mmc1 (fresh mode) (used mode)
 unfolding opened
@@ -114,29 +112,29 @@ loads-at control chr0 chr1 prg bit4 =
       while-bit-4-is-set = bit4;
     }
 
-pub met-settled : (mode : Mode) → Settled (cleared (bit7 lent) (fresh mode)) (calls lent)
+pub met-settled : (mode : Mode) → Settled (wrote (fresh mode) (bit7 lent)) (calls lent)
 unfolding opened
 met-settled House = loads-at refl refl refl refl refl
 met-settled OnBoard = loads-at refl refl refl refl refl
 
 -- so the two agree
-pub met : (mode : Mode) → Agree (after (cleared (bit7 lent) (fresh mode)) (calls lent)) (after (cleared (bit7 others) (used mode)) (calls others))
+pub met : (mode : Mode) → Agree (after (wrote (fresh mode) (bit7 lent)) (calls lent)) (after (wrote (used mode) (bit7 others)) (calls others))
 met mode =
     mmc1-settles (fresh mode) (used mode) (met-image mode) (bit7 lent) (bit7 others) (met-fresh mode) (met-used mode) (calls lent) (calls others) met-calls
     .the-boards-agree (met-settled mode)
 
 -- what the two boards of house mode answer to a read after the bit 7 write and a run
-abbrev apart : List Call → ℕ → Answer → Answer → Type 0
-apart cs a x y =
-    (answers (after (cleared (bit7 lent) (fresh House)) cs) (read lent a ∷ []) ≡ x ∷ [])
-    × (answers (after (cleared (bit7 lent) (used House)) cs) (read lent a ∷ []) ≡ y ∷ [])
+abbrev apart : List Event → ℕ → Answer → Answer → Type 0
+apart es a x y =
+    (answers (after (wrote (fresh House) (bit7 lent)) (callsOf mmc1-image es)) (call lent (Read a) ∷ []) ≡ x ∷ [])
+    × (answers (after (wrote (used House) (bit7 lent)) (callsOf mmc1-image es)) (call lent (Read a) ∷ []) ≡ y ∷ [])
 
 -- a CHR 0 load before the control load, and all else as asked
-pub chr0-before-the-control-load : apart (five lent 0xA000 2 ++ five lent 0x8000 16 ++ five lent 0xC000 0 ++ five lent 0xE000 0) 0x0000 (toRead (Byte 0)) (toRead (Refused BankPastData))
+pub chr0-before-the-control-load : apart (five 0xA000 2 ++ five 0x8000 16 ++ five 0xC000 0 ++ five 0xE000 0) 0x0000 (toRead (Byte 0)) (toRead (Refused BankPastData))
 unfolding opened
 chr0-before-the-control-load = (refl, refl)
 
 -- a CHR 1 load in 8 KB mode, and all else as asked; a second control load shows CHR 1
-pub chr1-in-8-KB-mode : apart (five lent 0x8000 0 ++ five lent 0xA000 0 ++ five lent 0xC000 1 ++ five lent 0xE000 0 ++ five lent 0x8000 16) 0x1000 (toRead (Byte 0)) (toRead (Refused BankPastData))
+pub chr1-in-8-KB-mode : apart (five 0x8000 0 ++ five 0xA000 0 ++ five 0xC000 1 ++ five 0xE000 0 ++ five 0x8000 16) 0x1000 (toRead (Byte 0)) (toRead (Refused BankPastData))
 unfolding opened
 chr1-in-8-KB-mode = (refl, refl)

@@ -2,7 +2,7 @@
 -- apart, and a write that both refuse: each is computed. Assumes nothing.
 use mathlib.Core.Path.{_≡_, refl}
 use mathlib.Core.Bool.{true, false}
-use mathlib.Core.List.{List, [], _∷_}
+use mathlib.Core.List.{List, [], _∷_, map}
 use native.Mathlib.Omega.{arith}
 use lib.ListN.{replicate}
 use Rattle.common.specs.declared.Mode.{Mode}
@@ -10,14 +10,16 @@ use Rattle.common.specs.declared.Mode.the-variants.{House, Board as OnBoard}
 use Rattle.cartridge.specs.declared.MapperType.the-variants.{Mmc3}
 use Rattle.boards.specs.Registers.{withMmc3}
 use Rattle.boards.specs.Write.{withRegisters}
-use Rattle.boards.specs.Runs.{Lent, Call, after}
-use Rattle.boards.specs.Runs.Call.{read, write, clock}
+use Rattle.boards.specs.Runs as runs
+use Rattle.boards.specs.Runs.{Lent, Call, call, after}
 use Rattle.boards.specs.declared.Board.{Board}
+use Rattle.boards.specs.declared.Event.{Event}
+use Rattle.boards.specs.declared.Event.the-variants.{Read, Write, Clock}
 use Rattle.boards.specs.declared.ClockAnswer.{ClockAnswer}
 use Rattle.boards.specs.declared.ClockAnswer.the-variants.{No, Yes}
 use Rattle.laws.specs.Calls.{History, reached, OneImage, SameCalls}
 use Rattle.laws.specs.Loads.{accepts}
-use Rattle.laws.specs.PLines.{mmc3 as mmc3-image, ram, loadOf}
+use Rattle.laws.specs.PLines.{mmc3 as mmc3-image, ram, loadOf, withRams, callsOf}
 use Rattle.laws.specs.SettlesMmc3.{irqAnswers, Arming, armed, Accepts, Settles}
 use Rattle.laws.proofs.Histories.{any-two-histories}
 use Rattle.laws.proofs.SettlesMmc3.{mmc3-settles}
@@ -25,10 +27,10 @@ use Rattle.laws.proofs.Opened.{opened}
 
 -- two boards that meet all this: one as it is loaded, and one in the midst of a game
 abbrev lent : Lent
-lent = record { image = mmc3-image; prg = ram; chr = ram }
+lent = withRams mmc3-image
 
 abbrev others : Lent
-others = record { image = mmc3-image; prg = replicate 8192 7; chr = replicate 8192 9 }
+others = runs.lent mmc3-image (replicate 8192 7) (replicate 8192 9)
 
 abbrev fresh : Mode → Board
 fresh mode = loadOf mode mmc3-image .board
@@ -70,7 +72,7 @@ met-used OnBoard = record { is-latch = refl; is-reload = refl; is-enable = refl;
 
 -- calls for both: a refused write, a read, a clock, and another latch
 abbrev calls : Lent → List Call
-calls l = write (record { image = l .image; prg = []; chr = l .chr }) 0xE000 0 ∷ read l 0x8000 ∷ clock ∷ write l 0xC000 5 ∷ []
+calls l = call (runs.lent (l .image) [] (l .chr)) (Write 0xE000 0) ∷ map (call l) (Read 0x8000 ∷ Clock ∷ Write 0xC000 5 ∷ [])
 
 -- a history of that image with any calls; two such leave boards of one image
 pub met-history : (mode : Mode) → List Call → History mode mmc3-image
@@ -91,26 +93,27 @@ met mode =
     mmc3-settles (fresh mode) (used mode) (met-image mode) (arming lent) (arming others) refl (met-fresh mode) (met-used mode) (calls lent) (calls others) met-calls
 
 -- what the two boards answer to clocks after a run that falls short by one write
-abbrev apart : Mode → List Call → List Call → List ClockAnswer → List ClockAnswer → Type 0
-apart mode cs ticks x y = (irqAnswers (after (fresh mode) cs) ticks ≡ x) × (irqAnswers (after (used mode) cs) ticks ≡ y)
+abbrev apart : Mode → List Event → List Event → List ClockAnswer → List ClockAnswer → Type 0
+apart mode es ticks x y =
+    (irqAnswers (after (fresh mode) (callsOf mmc3-image es)) (callsOf mmc3-image ticks) ≡ x) × (irqAnswers (after (used mode) (callsOf mmc3-image es)) (callsOf mmc3-image ticks) ≡ y)
 
 -- no reload mark
-pub without-the-reload : apart House (write lent 0xC000 2 ∷ write lent 0xE001 0 ∷ []) (clock ∷ []) (Yes ∷ []) (No ∷ [])
+pub without-the-reload : apart House (Write 0xC000 2 ∷ Write 0xE001 0 ∷ []) (Clock ∷ []) (Yes ∷ []) (No ∷ [])
 unfolding opened
 without-the-reload = (refl, refl)
 
 -- no enable
-pub without-the-enable : apart House (write lent 0xC000 0 ∷ write lent 0xC001 0 ∷ []) (clock ∷ clock ∷ []) (No ∷ No ∷ []) (No ∷ Yes ∷ [])
+pub without-the-enable : apart House (Write 0xC000 0 ∷ Write 0xC001 0 ∷ []) (Clock ∷ Clock ∷ []) (No ∷ No ∷ []) (No ∷ Yes ∷ [])
 unfolding opened
 without-the-enable = (refl, refl)
 
 -- no latch
-pub without-the-latch : apart House (write lent 0xC001 0 ∷ write lent 0xE001 0 ∷ []) (clock ∷ clock ∷ []) (No ∷ Yes ∷ []) (No ∷ No ∷ [])
+pub without-the-latch : apart House (Write 0xC001 0 ∷ Write 0xE001 0 ∷ []) (Clock ∷ Clock ∷ []) (No ∷ Yes ∷ []) (No ∷ No ∷ [])
 unfolding opened
 without-the-latch = (refl, refl)
 
 -- the acknowledging write after latch 1, reload, enable and clock is refused on both in house mode
-pub refused-on-both : (accepts (after (fresh House) (write lent 0xC000 1 ∷ write lent 0xC001 0 ∷ write lent 0xE001 0 ∷ clock ∷ [])) lent 0xE000 ≡ false)
-    × (accepts (after (used House) (write lent 0xC000 1 ∷ write lent 0xC001 0 ∷ write lent 0xE001 0 ∷ clock ∷ [])) lent 0xE000 ≡ false)
+pub refused-on-both : (accepts (after (fresh House) (callsOf mmc3-image (Write 0xC000 1 ∷ Write 0xC001 0 ∷ Write 0xE001 0 ∷ Clock ∷ []))) lent 0xE000 ≡ false)
+    × (accepts (after (used House) (callsOf mmc3-image (Write 0xC000 1 ∷ Write 0xC001 0 ∷ Write 0xE001 0 ∷ Clock ∷ []))) lent 0xE000 ≡ false)
 unfolding opened
 refused-on-both = (refl, refl)

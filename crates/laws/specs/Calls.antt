@@ -1,8 +1,8 @@
--- Demand 3, what the two boards are given: a history, writes, the same calls, and later events with one lot of RAM.
+-- Demand 3, what the two boards are given: a history, writes, and the same calls.
 use Prim.Native.Nat.{ℕ}
 use mathlib.Core.Path.{_≡_}
 use mathlib.Core.Bool.{true}
-use mathlib.Core.List.{List, [], _∷_, map}
+use mathlib.Core.List.{List, [], map}
 use lib.ListN.{length, replicate}
 use Rattle.common.specs.declared.Mode.{Mode}
 use Rattle.cartridge.specs.Header.{headerOf}
@@ -10,9 +10,10 @@ use Rattle.cartridge.specs.Load.{verdict, cartridgeOf, loadedAs}
 use Rattle.cartridge.specs.declared.MapperType.{MapperType}
 use Rattle.boards.specs.Range.{inRange}
 use Rattle.boards.specs.Start.{loadedBoard}
-use Rattle.boards.specs.Runs.{Lent, Call, Answer, next, answer, prgAfter, chrAfter, after}
-use Rattle.boards.specs.Runs.Call.{read, write, clock}
+use Rattle.boards.specs.Runs.{Lent, lent, Call, call, next, after}
 use Rattle.boards.specs.declared.Board.{Board}
+use Rattle.boards.specs.declared.Event.{Event}
+use Rattle.boards.specs.declared.Event.the-variants.{Read, Write, Clock}
 use Rattle.boards.specs.declared.Loaded.{Loaded}
 use Rattle.boards.specs.declared.LoadAnswer.the-variants.{Accepted}
 
@@ -39,50 +40,29 @@ pub record OneImage (k : MapperType) (b d : Board) : Type 0 where
   pub second : inRange d ≡ true
 
 -- a write, with the buffers lent to it
-pub record Write : Type 0 where
+pub record LentWrite : Type 0 where
   pub lent : Lent
   pub address : ℕ
   pub byte : ℕ
 
+-- the board after it
+abbrev pub wrote : Board → LentWrite → Board
+wrote b w = next b (w .lent) (Write (w .address) (w .byte))
+
 -- "lent buffers of the same lengths (contents may differ)": what is left once the contents are wiped
 abbrev pub wipedLent : Lent → Lent
-wipedLent l =
-    record { image = replicate (length (l .image)) 0; prg = replicate (length (l .prg)) 0; chr = replicate (length (l .chr)) 0 }
+wipedLent l = lent (replicate (length (l .image)) 0) (replicate (length (l .prg)) 0) (replicate (length (l .chr)) 0)
+
+-- what a call of each kind is lent: a clock nothing
+abbrev pub wipedFor : Event → Lent → Lent
+wipedFor (Read a) l = wipedLent l
+wipedFor (Write a v) l = wipedLent l
+wipedFor Clock l = lent [] [] []
 
 -- a call of any kind, its buffers wiped
 abbrev pub wiped : Call → Call
-wiped (read l a) = read (wipedLent l) a
-wiped (write l a v) = write (wipedLent l) a v
-wiped clock = clock
+wiped (call l e) = call (wipedFor e l) e
 
 -- "then get the same calls", but for the contents of the buffers
 abbrev pub SameCalls : List Call → List Call → Type 0
 SameCalls cs ds = map wiped cs ≡ map wiped ds
-
--- a call without its buffers
-pub data Event : Type 0 where
-  reads : ℕ → Event
-  writes : ℕ → ℕ → Event
-  clocks : Event
-
--- the call, once buffers are lent to it
-abbrev pub call : Lent → Event → Call
-call l (reads a) = read l a
-call l (writes a v) = write l a v
-call l clocks = clock
-
--- the buffers as it leaves them
-abbrev pub left : Board → Lent → Event → Lent
-left b l (reads a) = l
-left b l (writes a v) = record { image = l .image; prg = prgAfter b (write l a v); chr = chrAfter b (write l a v) }
-left b l clocks = l
-
--- the answers to events, each lent what the one before left
-abbrev pub played : Board → Lent → List Event → List Answer
-played b l [] = []
-played b l (e ∷ es) = answer b (call l e) ∷ played (next b (call l e)) (left b l e) es
-
--- and what the last one leaves
-abbrev pub leftAfter : Board → Lent → List Event → Lent
-leftAfter b l [] = l
-leftAfter b l (e ∷ es) = leftAfter (next b (call l e)) (left b l e) es

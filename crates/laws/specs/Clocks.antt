@@ -5,10 +5,9 @@ use mathlib.Core.Bool.{Bool, true, false}
 use Rattle.common.specs.declared.Mode.{Mode}
 use Rattle.cartridge.specs.declared.MapperType.the-variants.{Mmc3}
 use Rattle.boards.specs.Range.{inRange}
-use Rattle.boards.specs.Runs.{Answer, next, answer}
-use Rattle.boards.specs.Runs.Call.{clock}
-use Rattle.boards.specs.Runs.Answer.{toRead, toWrite, toClock}
+use Rattle.boards.specs.Clock.{clock}
 use Rattle.boards.specs.declared.Board.{Board}
+use Rattle.boards.specs.declared.ClockAnswer.{ClockAnswer}
 use Rattle.boards.specs.declared.ClockAnswer.the-variants.{No, Yes, Refused}
 
 -- an MMC3 board that calls can have reached, in this mode
@@ -27,17 +26,15 @@ pub record Ready (mode : Mode) (n : ℕ) (b : Board) : Type 0 where
 -- the board after k clocks, "and nothing after"
 abbrev pub ticked : ℕ → Board → Board
 ticked zero b = b
-ticked (suc k) b = next (ticked k b) clock
+ticked (suc k) b = clock (ticked k b) .board
 
--- an answer that is a clock's yes
-abbrev pub isYes : Answer → Bool
-isYes (toClock Yes) = true
-isYes (toClock No) = false
-isYes (toClock (Refused why)) = false
-isYes (toRead r) = false
-isYes (toWrite r) = false
+-- an answer that is yes
+abbrev pub isYes : ClockAnswer → Bool
+isYes Yes = true
+isYes No = false
+isYes (Refused why) = false
 
 -- whether "clock k (from one) answers yes"
 abbrev pub saysYes : ℕ → Board → Bool
 saysYes zero b = false
-saysYes (suc k) b = isYes (answer (ticked k b) clock)
+saysYes (suc k) b = isYes (clock (ticked k b) .answer)

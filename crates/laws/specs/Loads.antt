@@ -2,38 +2,35 @@
 use Prim.Native.Nat.{ℕ}
 use mathlib.Core.Bool.{Bool, true, false, cond, _&&_}
 use mathlib.Core.List.{List, [], _∷_}
-use Rattle.cartridge.specs.Answers.{isMapper}
+use Rattle.cartridge.specs.Mappers.{isMapper}
 use Rattle.cartridge.specs.declared.MapperType.the-variants.{Mmc1}
-use Rattle.places.specs.declared.Place.{Place}
-use Rattle.places.specs.declared.Place.the-variants.{Prg, Chr, PrgRam, ChrRam, Zero, Refused}
+use Rattle.places.specs.declared.Landing.{Landing}
+use Rattle.places.specs.declared.Landing.the-variants.{At, Refused}
 use Rattle.mmc1.specs.Write.{moveOf}
 use Rattle.mmc1.specs.declared.Move.{Move}
 use Rattle.mmc1.specs.declared.Move.the-variants.{Nothing}
 use Rattle.boards.specs.Write.{landing}
-use Rattle.boards.specs.Runs.{Lent, Call, next}
-use Rattle.boards.specs.Runs.Call.{read, write, clock}
+use Rattle.boards.specs.Runs.{Lent, Call, call, next}
 use Rattle.boards.specs.declared.Board.{Board}
+use Rattle.boards.specs.declared.Event.{Event}
+use Rattle.boards.specs.declared.Event.the-variants.{Read, Write, Clock}
 
 -- whether a write that lands there is accepted
-unfoldable pub isAccepted : Place → Bool
+unfoldable pub isAccepted : Landing → Bool
 isAccepted (Refused why) = false
-isAccepted (Prg i) = true
-isAccepted (Chr i) = true
-isAccepted (PrgRam i) = true
-isAccepted (ChrRam i) = true
-isAccepted Zero = true
+isAccepted (At p) = true
 
 -- whether the board accepts a write; it answers a refusal exactly when not
 abbrev pub accepts : Board → Lent → ℕ → Bool
 accepts b l a = isAccepted (landing b (l .image) (l .prg) (l .chr) a)
 
--- the move that a call makes on an MMC1 board; a refused write, any other call and any other board make none
-unfoldable pub made : Board → Call → Move
-made b (read l a) = Nothing
-made b (write l a v) = cond (isMapper (b .cart .mapper) Mmc1 && accepts b l a) (moveOf (b .registers .mmc1 .serial) v a) Nothing
-made b clock = Nothing
+-- the move that an event makes on an MMC1 board; a refused write, any other event and any other board make none
+unfoldable pub made : Board → Lent → Event → Move
+made b l (Read a) = Nothing
+made b l (Write a v) = cond (isMapper (b .cart .mapper) Mmc1 && accepts b l a) (moveOf (b .registers .mmc1 .serial) v a) Nothing
+made b l Clock = Nothing
 
 -- the moves of a list of calls, in order: each `Fill` is a completed load, with its register and its five bits
 unfoldable pub moves : Board → List Call → List Move
 moves b [] = []
-moves b (c ∷ cs) = made b c ∷ moves (next b c) cs
+moves b (call l e ∷ cs) = made b l e ∷ moves (next b l e) cs

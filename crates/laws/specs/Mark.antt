@@ -8,9 +8,9 @@ use lib.ListN.{set}
 use Rattle.common.specs.declared.Mode.{Mode}
 use Rattle.cartridge.specs.Header.{headerOf, isNes2}
 use Rattle.cartridge.specs.declared.Cartridge.{Cartridge}
-use Rattle.boards.specs.Runs.{Lent, Call, next, answer, prgAfter, chrAfter, after, answers}
-use Rattle.boards.specs.Runs.Call.{read, write, clock}
+use Rattle.boards.specs.Runs.{Lent, lent, next, answer, left, Call, call, after, answers}
 use Rattle.boards.specs.declared.Board.{Board}
+use Rattle.boards.specs.declared.Event.{Event}
 use Rattle.boards.specs.declared.LoadAnswer.the-variants.{Accepted}
 use Rattle.laws.specs.Calls.{loadWith}
 
@@ -29,25 +29,22 @@ withByte7 v s = set s 7 v
 
 -- the buffers of a call, with that image
 abbrev pub lentWith : ℕ → Lent → Lent
-lentWith v l = record { image = withByte7 v (l .image); prg = l .prg; chr = l .chr }
+lentWith v l = lent (withByte7 v (l .image)) (l .prg) (l .chr)
 
 -- the call with it
 abbrev pub callWith : ℕ → Call → Call
-callWith v (read l a) = read (lentWith v l) a
-callWith v (write l a w) = write (lentWith v l) a w
-callWith v clock = clock
+callWith v (call l e) = call (lentWith v l) e
 
 -- a load of it: the same answer, and where that is accepted the same board, but for the mark
 pub record SameLoad (mode : Mode) (s prg chr : List ℕ) (v : ℕ) : Type 0 where
   pub the-answer : loadWith mode (withByte7 v s) prg chr .answer ≡ loadWith mode s prg chr .answer
   pub the-board : loadWith mode s prg chr .answer ≡ Accepted → loadWith mode (withByte7 v s) prg chr .board ≡ marked (isNes2 (headerOf (withByte7 v s))) (loadWith mode s prg chr .board)
 
--- a call on a board with another mark, lent such an image: the answer, both RAMs and the next board are the same, but for the mark
-pub record SameCall (mark : Bool) (v : ℕ) (b : Board) (c : Call) : Type 0 where
-  pub the-answer : answer (marked mark b) (callWith v c) ≡ answer b c
-  pub the-next-board : next (marked mark b) (callWith v c) ≡ marked mark (next b c)
-  pub prg-ram : prgAfter (marked mark b) (callWith v c) ≡ prgAfter b c
-  pub chr-ram : chrAfter (marked mark b) (callWith v c) ≡ chrAfter b c
+-- a call on a board with another mark, lent such an image: the answer, the next board and both RAMs are the same, but for the mark and byte 7
+pub record SameCall (mark : Bool) (v : ℕ) (b : Board) (l : Lent) (e : Event) : Type 0 where
+  pub the-answer : answer (marked mark b) (lentWith v l) e ≡ answer b l e
+  pub the-next-board : next (marked mark b) (lentWith v l) e ≡ marked mark (next b l e)
+  pub the-buffers : left (marked mark b) (lentWith v l) e ≡ lentWith v (left b l e)
 
 -- a run of such calls: the same answers, and the same board at its end, but for the mark
 pub record SameRun (mark : Bool) (v : ℕ) (b : Board) (cs : List Call) : Type 0 where

@@ -9,11 +9,13 @@ use Rattle.mmc1.specs.declared.Move.the-variants.{Nothing, Clear, Enter, Fill}
 use Rattle.mmc1.specs.declared.Register.{Register}
 use Rattle.mmc1.specs.declared.Register.the-variants.{Control, Chr0, Chr1, Prg}
 use Rattle.boards.specs.Numbers.{refusedBy, readNumber, writeNumber, clockNumber, loadNumber}
-use Rattle.boards.specs.Runs.{Lent, Answer, after, answers}
-use Rattle.boards.specs.Runs.Answer.{toRead, toWrite, toClock}
+use Rattle.boards.specs.Runs.{Lent, lent, Call, call, after, answers}
 use Rattle.boards.specs.declared.Loaded.{Loaded}
-use Rattle.laws.specs.Calls.{Event, loadWith, call}
-use Rattle.laws.specs.Calls.Event.{reads, writes, clocks}
+use Rattle.boards.specs.declared.Event.{Event}
+use Rattle.boards.specs.declared.Event.the-variants.{Read, Write, Clock}
+use Rattle.boards.specs.declared.Answer.{Answer}
+use Rattle.boards.specs.declared.Answer.the-variants.{Read as toRead, Write as toWrite, Clock as toClock}
+use Rattle.laws.specs.Calls.{loadWith}
 use Rattle.laws.specs.Loads.{moves}
 
 -- a header: PRG count, CHR count, bytes 6 and 7
@@ -33,8 +35,12 @@ abbrev pub loadOf : Mode → List ℕ → Loaded
 loadOf mode s = loadWith mode s ram ram
 
 -- the image and both RAMs, lent to a call
-abbrev pub lent : List ℕ → Lent
-lent s = record { image = s; prg = ram; chr = ram }
+abbrev pub withRams : List ℕ → Lent
+withRams s = lent s ram ram
+
+-- events, each with these
+abbrev pub callsOf : List ℕ → List Event → List Call
+callsOf s es = map (call (withRams s)) es
 
 -- what a row asks: a load, or of a loaded board its answers, the loads that it completes, or a register
 pub data Question : Type 0 where
@@ -68,19 +74,19 @@ listed (Fill w v ∷ ks) = registerNumber w ∷ v ∷ listed ks
 -- the answer to a question
 abbrev pub answerTo : Question → List ℕ
 answerTo (whenLoaded mode s) = loadNumber (loadOf mode s .answer) ∷ []
-answerTo (whenPlayed mode s es) = map answerNumber (answers (loadOf mode s .board) (map (call (lent s)) es))
-answerTo (loadsOf mode s es) = listed (moves (loadOf mode s .board) (map (call (lent s)) es))
+answerTo (whenPlayed mode s es) = map answerNumber (answers (loadOf mode s .board) (callsOf s es))
+answerTo (loadsOf mode s es) = listed (moves (loadOf mode s .board) (callsOf s es))
 answerTo (modesAfter mode s es) =
-    let r = after (loadOf mode s .board) (map (call (lent s)) es) .registers .mmc1 .regs in
+    let r = after (loadOf mode s .board) (callsOf s es) .registers .mmc1 .regs in
     r .prgmode ∷ r .chrmode ∷ []
-answerTo (prgAfter mode s es) = after (loadOf mode s .board) (map (call (lent s)) es) .registers .mmc1 .regs .prg ∷ []
+answerTo (prgAfter mode s es) = after (loadOf mode s .board) (callsOf s es) .registers .mmc1 .regs .prg ∷ []
 
 -- a row: what is asked, and what is wanted
 pub record Row : Type 0 where
   pub asked : Question
   pub wanted : List ℕ
 
--- one of these
+-- a row by its two parts
 abbrev pub row : Question → List ℕ → Row
 row q w = record { asked = q; wanted = w }
 
@@ -106,29 +112,29 @@ mmc3 = image 16400 1 0 0x40
 
 -- the writes that P7 and P8 name
 abbrev pub fiveBits : List Event
-fiveBits = writes 0x8000 1 ∷ writes 0x8000 1 ∷ writes 0x8000 0 ∷ writes 0x8000 0 ∷ writes 0x8000 1 ∷ []
+fiveBits = Write 0x8000 1 ∷ Write 0x8000 1 ∷ Write 0x8000 0 ∷ Write 0x8000 0 ∷ Write 0x8000 1 ∷ []
 
 -- five ones, which load PRG 15
 abbrev pub fiveOnes : List Event
-fiveOnes = writes 0xE000 1 ∷ writes 0xE000 1 ∷ writes 0xE000 1 ∷ writes 0xE000 1 ∷ writes 0xE000 1 ∷ []
+fiveOnes = Write 0xE000 1 ∷ Write 0xE000 1 ∷ Write 0xE000 1 ∷ Write 0xE000 1 ∷ Write 0xE000 1 ∷ []
 
 -- of P8: four bits, byte 80, five zeros
 abbrev pub fourAndFive : List Event
 fourAndFive =
-    writes 0xE000 1 ∷ writes 0xE000 1 ∷ writes 0xE000 1 ∷ writes 0xE000 1 ∷ writes 0xE000 0x80
-    ∷ writes 0xE000 0 ∷ writes 0xE000 0 ∷ writes 0xE000 0 ∷ writes 0xE000 0 ∷ writes 0xE000 0 ∷ []
+    Write 0xE000 1 ∷ Write 0xE000 1 ∷ Write 0xE000 1 ∷ Write 0xE000 1 ∷ Write 0xE000 0x80
+    ∷ Write 0xE000 0 ∷ Write 0xE000 0 ∷ Write 0xE000 0 ∷ Write 0xE000 0 ∷ Write 0xE000 0 ∷ []
 
 -- latch n, reload and enable written, then clocks
 abbrev pub armed : ℕ → List Event → List Event
-armed n es = writes 0xC000 n ∷ writes 0xC001 0 ∷ writes 0xE001 0 ∷ es
+armed n es = Write 0xC000 n ∷ Write 0xC001 0 ∷ Write 0xE001 0 ∷ es
 
 -- clocks 1-3
 abbrev pub three : List Event
-three = clocks ∷ clocks ∷ clocks ∷ []
+three = Clock ∷ Clock ∷ Clock ∷ []
 
 -- clocks 1-7
 abbrev pub seven : List Event
-seven = clocks ∷ clocks ∷ clocks ∷ clocks ∷ clocks ∷ clocks ∷ clocks ∷ []
+seven = Clock ∷ Clock ∷ Clock ∷ Clock ∷ Clock ∷ Clock ∷ Clock ∷ []
 
 -- the table
 abbrev pub rows : List Row
@@ -161,9 +167,9 @@ rows =
     ∷ row (whenPlayed House mmc3 (armed 2 seven)) (0 ∷ 0 ∷ 0 ∷ 0 ∷ 0 ∷ 0 ∷ 1 ∷ 0 ∷ 0 ∷ 1 ∷ [])
     ∷ row (whenPlayed OnBoard mmc3 (armed 2 seven)) (0 ∷ 0 ∷ 0 ∷ 0 ∷ 0 ∷ 1 ∷ 0 ∷ 0 ∷ 1 ∷ 0 ∷ [])
     -- P11: UxROM, PRG 2, bank 2, read 8000: 11; board: PRG byte 0
-    ∷ row (whenPlayed House uxrom (writes 0x8000 2 ∷ reads 0x8000 ∷ [])) (0 ∷ refusedBy 11 ∷ [])
-    ∷ row (whenPlayed OnBoard uxrom (writes 0x8000 2 ∷ reads 0x8000 ∷ [])) (0 ∷ 7 ∷ [])
+    ∷ row (whenPlayed House uxrom (Write 0x8000 2 ∷ Read 0x8000 ∷ [])) (0 ∷ refusedBy 11 ∷ [])
+    ∷ row (whenPlayed OnBoard uxrom (Write 0x8000 2 ∷ Read 0x8000 ∷ [])) (0 ∷ 7 ∷ [])
     -- P12: CNROM, PRG 1, read BFFF: 13; board: PRG byte 16,383
-    ∷ row (whenPlayed House cnrom (reads 0xBFFF ∷ [])) (refusedBy 13 ∷ [])
-    ∷ row (whenPlayed OnBoard cnrom (reads 0xBFFF ∷ [])) (9 ∷ [])
+    ∷ row (whenPlayed House cnrom (Read 0xBFFF ∷ [])) (refusedBy 13 ∷ [])
+    ∷ row (whenPlayed OnBoard cnrom (Read 0xBFFF ∷ [])) (9 ∷ [])
     ∷ []

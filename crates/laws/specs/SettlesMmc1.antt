@@ -9,21 +9,17 @@ use Rattle.mmc1.specs.declared.Move.{Move}
 use Rattle.mmc1.specs.declared.Move.the-variants.{Nothing, Clear, Enter, Fill}
 use Rattle.mmc1.specs.declared.Register.{Register}
 use Rattle.mmc1.specs.declared.Register.the-variants.{Control, Chr0, Chr1, Prg}
-use Rattle.boards.specs.Runs.{Lent, Call, next, after, answers}
-use Rattle.boards.specs.Runs.Call.{write}
+use Rattle.boards.specs.Runs.{Lent, Call, after, answers, moment, played, ended}
 use Rattle.boards.specs.declared.Board.{Board}
-use Rattle.laws.specs.Calls.{Write, Event, played, leftAfter}
+use Rattle.boards.specs.declared.Event.{Event}
+use Rattle.laws.specs.Calls.{LentWrite}
 use Rattle.laws.specs.Loads.{accepts, moves}
 
 -- the board accepts the write, and it is "a write with bit 7 set to 8000-FFFF"
-pub record Clears (w : Write) (b : Board) : Type 0 where
+pub record Clears (w : LentWrite) (b : Board) : Type 0 where
   pub to-8000-FFFF : 0x8000 ≤ w .address
   pub bit-7 : isSigned (w .byte) ≡ true
   pub accepted : accepts b (w .lent) (w .address) ≡ true
-
--- the board after it
-abbrev pub cleared : Write → Board → Board
-cleared w b = next b (write (w .lent) (w .address) (w .byte))
 
 -- what the call at a position does
 abbrev pub moveAt : Board → List Call → ℕ → Move
@@ -79,8 +75,8 @@ pub record Settles (b d : Board) (cs ds : List Call) : Type 0 where
   -- "Once there have been a control load, ..": "the boards agree in all that answers depend on"
   pub the-boards-agree : Settled b cs → Agree (after b cs) (after d ds)
   -- "so with equal RAM bytes all later answers agree (reads with their refusals, notices, clocks)": each event is lent what the one before left
-  pub later-answers-agree : Settled b cs → (l : Lent) (es : List Event) → played (after b cs) l es ≡ played (after d ds) l es
+  pub later-answers-agree : Settled b cs → (l : Lent) (es : List Event) → played (moment (after b cs) l) es ≡ played (moment (after d ds) l) es
   -- and the RAM bytes stay equal
-  pub rams-stay-equal : Settled b cs → (l : Lent) (es : List Event) → leftAfter (after b cs) l es ≡ leftAfter (after d ds) l es
+  pub rams-stay-equal : Settled b cs → (l : Lent) (es : List Event) → ended (moment (after b cs) l) es .lent ≡ ended (moment (after d ds) l) es .lent
   -- and answers agree whatever is lent to each call, as long as both boards are lent the same
   pub whatever-is-lent : Settled b cs → (later : List Call) → answers (after b cs) later ≡ answers (after d ds) later

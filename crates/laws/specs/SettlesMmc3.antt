@@ -5,38 +5,44 @@ use mathlib.Core.Bool.{true}
 use mathlib.Core.List.{List, [], _∷_}
 use Rattle.mmc3.specs.Write.{moveOf}
 use Rattle.mmc3.specs.declared.Move.the-variants.{Latch, Reload, Enable}
-use Rattle.boards.specs.Clock as clocks
-use Rattle.boards.specs.Runs.{Lent, Call, next, after}
-use Rattle.boards.specs.Runs.Call.{read, write, clock}
+use Rattle.boards.specs.Clock.{clock}
+use Rattle.boards.specs.Runs.{Lent, Call, call, after, answers}
 use Rattle.boards.specs.declared.Board.{Board}
+use Rattle.boards.specs.declared.Event.the-variants.{Clock}
+use Rattle.boards.specs.declared.Answer.{Answer}
+use Rattle.boards.specs.declared.Answer.the-variants.{Read as toRead, Write as toWrite, Clock as toClock}
 use Rattle.boards.specs.declared.ClockAnswer.{ClockAnswer}
-use Rattle.laws.specs.Calls.{Write, wipedLent}
+use Rattle.laws.specs.Calls.{LentWrite, wrote, wipedLent}
 use Rattle.laws.specs.Loads.{accepts}
+
+-- the IRQ answers, which are those of clocks, among answers
+abbrev pub clocksAmong : List Answer → List ClockAnswer
+clocksAmong [] = []
+clocksAmong (toRead r ∷ rs) = clocksAmong rs
+clocksAmong (toWrite r ∷ rs) = clocksAmong rs
+clocksAmong (toClock r ∷ rs) = r ∷ clocksAmong rs
 
 -- the IRQ answers of a list of calls
 abbrev pub irqAnswers : Board → List Call → List ClockAnswer
-irqAnswers b [] = []
-irqAnswers b (read l a ∷ cs) = irqAnswers (next b (read l a)) cs
-irqAnswers b (write l a v ∷ cs) = irqAnswers (next b (write l a v)) cs
-irqAnswers b (clock ∷ cs) = clocks.clock b .answer ∷ irqAnswers (next b clock) cs
+irqAnswers b cs = clocksAmong (answers b cs)
 
 -- the three writes, straight after one another
 pub record Arming : Type 0 where
-  pub latch : Write
-  pub reload : Write
-  pub enable : Write
+  pub latch : LentWrite
+  pub reload : LentWrite
+  pub enable : LentWrite
 
 -- the board after the first
 abbrev pub latched : Board → Arming → Board
-latched b w = next b (write (w .latch .lent) (w .latch .address) (w .latch .byte))
+latched b w = wrote b (w .latch)
 
 -- after the second
 abbrev pub reloaded : Board → Arming → Board
-reloaded b w = next (latched b w) (write (w .reload .lent) (w .reload .address) (w .reload .byte))
+reloaded b w = wrote (latched b w) (w .reload)
 
 -- after the third
 abbrev pub armed : Board → Arming → Board
-armed b w = next (reloaded b w) (write (w .enable .lent) (w .enable .address) (w .enable .byte))
+armed b w = wrote (reloaded b w) (w .enable)
 
 -- they go to the latch, the reload mark and the enable, and the board accepts each; the clock has no line: a clock of a board in range is never refused
 pub record Accepts (b : Board) (w : Arming) : Type 0 where
@@ -50,6 +56,6 @@ pub record Accepts (b : Board) (w : Arming) : Type 0 where
 -- what demand 3 says of two boards that accepted the three writes, of the clock straight after them and of the calls that they get then
 pub record Settles (b d : Board) (cs ds : List Call) : Type 0 where
   -- "agree on every IRQ answer from that clock on"
-  pub irq-answers-agree : irqAnswers b (clock ∷ cs) ≡ irqAnswers d (clock ∷ ds)
+  pub irq-answers-agree : (l k : Lent) → irqAnswers b (call l Clock ∷ cs) ≡ irqAnswers d (call k Clock ∷ ds)
   -- a later write, so too the acknowledging one (14), is refused on both or on neither
-  pub both-refuse-or-neither : (l k : Lent) → wipedLent l ≡ wipedLent k → (a : ℕ) → accepts (after (next b clock) cs) l a ≡ accepts (after (next d clock) ds) k a
+  pub both-refuse-or-neither : (l k : Lent) → wipedLent l ≡ wipedLent k → (a : ℕ) → accepts (after (clock b .board) cs) l a ≡ accepts (after (clock d .board) ds) k a

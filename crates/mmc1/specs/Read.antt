@@ -1,5 +1,5 @@
--- MMC1: where a read and a write land.
-use Prim.Native.Nat.{ℕ, _+_, _*_, _/_, _%_}
+-- MMC1: what a read and a write find at an address.
+use Prim.Native.Nat.{ℕ, _+_, _*_, _/_}
 use mathlib.Core.Bool.{Bool, cond}
 use mathlib.Core.List.{List}
 use lib.Dec.{ltb, eqb}
@@ -9,9 +9,8 @@ use Rattle.common.specs.declared.Mode.the-variants.{House, Board}
 use Rattle.banks.specs.Banks.{bankStart, bankOf}
 use Rattle.cartridge.specs.Load.{lastPrg, prgTotal, chrTotal, prgRom, chrData}
 use Rattle.cartridge.specs.declared.Cartridge.{Cartridge}
-use Rattle.places.specs.Places.{prgPlace, chrPlace, inWindows, housePpuWrite}
-use Rattle.places.specs.declared.Place.{Place}
-use Rattle.places.specs.declared.Place.the-variants.{Zero}
+use Rattle.places.specs.Windows.{Window, inWindows, houseChr}
+use Rattle.places.specs.Windows.Window.{Prg16K, Chr4K, Nothing}
 use Rattle.mmc1.specs.Write.{switches8Kb}
 use Rattle.mmc1.specs.declared.Regs.{Regs}
 use Rattle.mmc1.specs.declared.Mmc1.{Mmc1}
@@ -54,35 +53,27 @@ chrBank m c a = cond (ltb a 0x1000) (lowerChr (c .mode) (m .regs)) (upperChr (c 
 unfoldable pub prgBank : Mmc1 → Cartridge → ℕ → ℕ
 prgBank m c a = cond (ltb a 0xC000) (lowerPrg (c .mode) (m .regs)) (upperPrg (c .mode) (m .regs) (lastPrg c))
 
--- the byte of that bank
-unfoldable pub chrAt : Mmc1 → Cartridge → ℕ → Place
-chrAt m c a = chrPlace c KB4 (chrBank m c a) (a % 4096)
-
--- the same for PRG
-unfoldable pub prgAt : Mmc1 → Cartridge → ℕ → Place
-prgAt m c a = prgPlace c KB16 (prgBank m c a) (a % 16384)
-
--- where a read lands
-unfoldable pub readPlace : Mmc1 → Cartridge → ℕ → Place
-readPlace m c a = inWindows (chrAt m c a) (prgAt m c a) a
+-- what a read finds
+unfoldable pub readWindow : Mmc1 → Cartridge → ℕ → Window
+readWindow m c a = inWindows (Chr4K (chrBank m c a)) (Prg16K (prgBank m c a)) a
 
 -- house: "PPU writes go to CHR RAM unbanked"; board: "CHR RAM is read and written through the banks, on all boards"
-unfoldable pub ppuWriteIn : Mode → Mmc1 → Cartridge → ℕ → Place
-ppuWriteIn House m c a = housePpuWrite c a
-ppuWriteIn Board m c a = chrAt m c a
+unfoldable pub ppuWriteIn : Mode → Mmc1 → Cartridge → ℕ → Window
+ppuWriteIn House m c a = houseChr c
+ppuWriteIn Board m c a = Chr4K (chrBank m c a)
 
 -- house: no byte lands; board: where it would be read
-unfoldable pub romWriteIn : Mode → Mmc1 → Cartridge → ℕ → Place
-romWriteIn House m c a = Zero
-romWriteIn Board m c a = prgAt m c a
+unfoldable pub romWriteIn : Mode → Mmc1 → Cartridge → ℕ → Window
+romWriteIn House m c a = Nothing
+romWriteIn Board m c a = Prg16K (prgBank m c a)
 
--- where a write lands in each mode
-unfoldable pub writePlaceIn : Mode → Mmc1 → Cartridge → ℕ → Place
-writePlaceIn mode m c a = inWindows (ppuWriteIn mode m c a) (romWriteIn mode m c a) a
+-- what a write finds in each mode
+unfoldable pub writeWindowIn : Mode → Mmc1 → Cartridge → ℕ → Window
+writeWindowIn mode m c a = inWindows (ppuWriteIn mode m c a) (romWriteIn mode m c a) a
 
 -- in the mode that the cartridge has
-abbrev pub writePlace : Mmc1 → Cartridge → ℕ → Place
-writePlace m c a = writePlaceIn (c .mode) m c a
+abbrev pub writeWindow : Mmc1 → Cartridge → ℕ → Window
+writeWindow m c a = writeWindowIn (c .mode) m c a
 
 -- the banks themselves: "MMC1's lower and upper PRG and CHR bank functions return a sub-slice of the lent image"
 unfoldable pub lowerPrgBank : Mmc1 → Cartridge → List ℕ → List ℕ

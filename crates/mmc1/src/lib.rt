@@ -1,18 +1,21 @@
 // MMC1: a serial register and the four registers that it loads. Ported from potatis nes/src/mappers/mmc1.rs.
 ghost use mathlib.Core.Path.{_≡_};
+ghost use Rattle.places.specs.Places.{byteAt};
+ghost use Rattle.places.specs.Windows.{landsIn};
+ghost use Rattle.places.specs.Windows.Window.{Chr4K, Prg16K};
 ghost use Rattle.mmc1.specs.Write.{shifted, registerAt, moveOf, reset, switches8Kb, storedChr0, storedChr1, load, applied, controlMirroring, mirrorsOf, written};
-ghost use Rattle.mmc1.specs.Read.{switches32Kb, prgPair, chrPair, lowerPrg, upperPrg, lowerChr, upperChr, chrBank, prgBank, chrAt, prgAt, lowerPrgBank, upperPrgBank, lowerChrBank, upperChrBank, readPlace, writePlace};
+ghost use Rattle.mmc1.specs.Read.{switches32Kb, prgPair, chrPair, lowerPrg, upperPrg, lowerChr, upperChr, chrBank, prgBank, readWindow, writeWindow, lowerPrgBank, upperPrgBank, lowerChrBank, upperChrBank};
 ghost use Rattle.mmc1.specs.Range.{start, unused, isUnused, serialFits, regsFits, fits};
-ghost use Rattle.places.specs.Places.{byteOf};
 use banks::Bank4K;
 use banks::Bank16K;
 use cartridge::Cartridge;
-use cartridge::Mirroring;
-use cartridge::Mirrors;
+use common::Mirroring;
+use common::Mirrors;
 use common::Mode;
 use common::bits;
 use common::kilobytes;
 use memory::byte_at;
+use places::Landing;
 use places::Place;
 
 // The bits that have entered, the last of them as bit 4.
@@ -393,45 +396,45 @@ impl Mmc1 {
         }
     }
 
-    fn read_chr(self, cart: Cartridge, address: u16) -> Place
-        ensures { λ r. ⌜ r ≡ chrAt self cart address ⌝ }
+    fn read_chr(self, cart: Cartridge, address: u16) -> Landing
+        ensures { λ r. ⌜ r ≡ landsIn cart (Chr4K (chrBank self cart address)) address ⌝ }
     {
-        places::chr_place_4k(cart, self.chr_bank(cart, address), address % 4096)
+        places::chr_4k(cart, self.chr_bank(cart, address), address)
     }
 
-    fn read_prg(self, cart: Cartridge, address: u16) -> Place
-        ensures { λ r. ⌜ r ≡ prgAt self cart address ⌝ }
+    fn read_prg(self, cart: Cartridge, address: u16) -> Landing
+        ensures { λ r. ⌜ r ≡ landsIn cart (Prg16K (prgBank self cart address)) address ⌝ }
     {
-        places::prg_place_16k(cart, self.prg_bank(cart, address), address % 16384)
+        places::prg_16k(cart, self.prg_bank(cart, address), address)
     }
 
-    pub fn read_place(self, cart: Cartridge, address: u16) -> Place
-        ensures { λ r. ⌜ r ≡ readPlace self cart address ⌝ }
+    pub fn read_landing(self, cart: Cartridge, address: u16) -> Landing
+        ensures { λ r. ⌜ r ≡ landsIn cart (readWindow self cart address) address ⌝ }
     {
         match address {
             0x0000..=0x1fff => self.read_chr(cart, address),
-            0x6000..=0x7fff => Place::PrgRam((address - 0x6000) as usize),
+            0x6000..=0x7fff => places::prg_ram(cart, address),
             0x8000..=0xffff => self.read_prg(cart, address),
-            _ => Place::Zero,
+            _ => Landing::At(Place::Nowhere),
         }
     }
 
-    // Where a read of it would land on the real board, and by rules of its own in the Rust.
-    pub fn write_place(self, cart: Cartridge, address: u16) -> Place
-        ensures { λ r. ⌜ r ≡ writePlace self cart address ⌝ }
+    // On the real board a byte is stored where it would be read; the Rust has rules of its own.
+    pub fn write_landing(self, cart: Cartridge, address: u16) -> Landing
+        ensures { λ r. ⌜ r ≡ landsIn cart (writeWindow self cart address) address ⌝ }
     {
         let mode = cart.mode;
         match address {
             0x0000..=0x1fff => match mode {
-                Mode::House => places::house_ppu_write(cart, address),
+                Mode::House => places::house_chr(cart, address),
                 Mode::Board => self.read_chr(cart, address),
             },
-            0x6000..=0x7fff => Place::PrgRam((address - 0x6000) as usize),
+            0x6000..=0x7fff => places::prg_ram(cart, address),
             0x8000..=0xffff => match mode {
-                Mode::House => Place::Zero,
+                Mode::House => Landing::At(Place::Nowhere),
                 Mode::Board => self.read_prg(cart, address),
             },
-            _ => Place::Zero,
+            _ => Landing::At(Place::Nowhere),
         }
     }
 
@@ -475,7 +478,7 @@ impl Mmc1 {
         banks::bank_of(cart.chr_data(image, ram), start, kilobytes::KB4)
     }
 
-    // The byte at the place of a read, from the bank that shows it; 0 where there is none.
+    // The byte that a read finds, from the bank that shows it; 0 where there is none.
     pub fn read8<'a>(
         self,
         cart: Cartridge,
@@ -484,23 +487,16 @@ impl Mmc1 {
         chr: &'a [u8],
         address: u16,
     ) -> u8
-        ensures { λ r. ⌜ r ≡ byteOf cart (readPlace self cart address) (now (image .entry)) (now (prg .entry)) (now (chr .entry)) ⌝ }
+        ensures { λ r. ⌜ r ≡ byteAt cart (landsIn cart (readWindow self cart address) address) (now (image .entry)) (now (prg .entry)) (now (chr .entry)) ⌝ }
     {
+        let in_chr = (address % 4096) as usize;
+        let in_prg = (address % 16384) as usize;
         match address {
-            0x0000..=0x0fff => byte_at(self.lower_chr_bank(cart, image, chr), address as usize),
-            0x1000..=0x1fff => byte_at(
-                self.upper_chr_bank(cart, image, chr),
-                (address - 0x1000) as usize,
-            ),
-            0x6000..=0x7fff => byte_at(prg, (address - 0x6000) as usize),
-            0x8000..=0xbfff => byte_at(
-                self.lower_prg_bank(cart, image),
-                (address - 0x8000) as usize,
-            ),
-            0xc000..=0xffff => byte_at(
-                self.upper_prg_bank(cart, image),
-                (address - 0xc000) as usize,
-            ),
+            0x0000..=0x0fff => byte_at(self.lower_chr_bank(cart, image, chr), in_chr),
+            0x1000..=0x1fff => byte_at(self.upper_chr_bank(cart, image, chr), in_chr),
+            0x6000..=0x7fff => byte_at(prg, (address % 8192) as usize),
+            0x8000..=0xbfff => byte_at(self.lower_prg_bank(cart, image), in_prg),
+            0xc000..=0xffff => byte_at(self.upper_prg_bank(cart, image), in_prg),
             _ => 0,
         }
     }

@@ -1,17 +1,15 @@
--- MMC3: where a read and a write land.
+-- MMC3: what a read and a write find at an address.
 use Prim.Native.Nat.{ℕ, _+_, _-_, _*_, _/_, _%_}
 use mathlib.Core.Bool.{cond, _&&_}
 use mathlib.Core.List.{List, [], _∷_}
 use lib.Dec.{ltb, leb, eqb}
 use lib.ListN.{getD}
-use Rattle.common.specs.Common.{KB1, KB8}
 use Rattle.common.specs.declared.Mode.{Mode}
 use Rattle.common.specs.declared.Mode.the-variants.{House, Board}
+use Rattle.common.specs.declared.Refusal.the-variants.{IrqPending}
 use Rattle.cartridge.specs.declared.Cartridge.{Cartridge}
-use Rattle.cartridge.specs.declared.Refusal.the-variants.{IrqPending}
-use Rattle.places.specs.Places.{prgPlace, chrPlace, inWindows}
-use Rattle.places.specs.declared.Place.{Place}
-use Rattle.places.specs.declared.Place.the-variants.{Zero, Refused}
+use Rattle.places.specs.Windows.{Window, inWindows}
+use Rattle.places.specs.Windows.Window.{Prg8K, Chr1K, Nothing, Refused}
 use Rattle.mmc3.specs.Clock.{isPending}
 use Rattle.mmc3.specs.Write.{isEven}
 use Rattle.mmc3.specs.declared.Mmc3.{Mmc3}
@@ -59,36 +57,28 @@ prgBank m c a =
     (cond (ltb a 0xE000) (cond (eqb (m .prgmode) 0) (lastButOne c) (register m 6))
     (lastBank c)))
 
--- the byte of the slot that an address names
-unfoldable pub chrAt : Mmc3 → Cartridge → ℕ → Place
-chrAt m c a = chrPlace c KB1 (chrBank m (a / 1024)) (a % 1024)
-
--- the byte of the 8 KB window that an address names
-unfoldable pub prgAt : Mmc3 → Cartridge → ℕ → Place
-prgAt m c a = prgPlace c KB8 (prgBank m c a) (a % 8192)
-
--- where a read lands
-unfoldable pub readPlace : Mmc3 → Cartridge → ℕ → Place
-readPlace m c a = inWindows (chrAt m c a) (prgAt m c a) a
+-- what a read finds: of CHR a slot of 1 KB, of PRG a window of 8 KB
+unfoldable pub readWindow : Mmc3 → Cartridge → ℕ → Window
+readWindow m c a = inWindows (Chr1K (chrBank m (a / 1024))) (Prg8K (prgBank m c a)) a
 
 -- refusal 14: "even address in E000-FFFF, IRQ enabled, counter 0 or 1"
-unfoldable pub acknowledged : Mmc3 → ℕ → Place
-acknowledged m a = cond (isPending (m .irq) && leb 0xE000 a && isEven a) (Refused IrqPending) Zero
+unfoldable pub acknowledged : Mmc3 → ℕ → Window
+acknowledged m a = cond (isPending (m .irq) && leb 0xE000 a && isEven a) (Refused IrqPending) Nothing
 
 -- house: "PPU writes do nothing, even with CHR RAM"; board: "CHR RAM is read and written through the banks, on all boards"
-unfoldable pub ppuWriteIn : Mode → Mmc3 → Cartridge → ℕ → Place
-ppuWriteIn House m c a = Zero
-ppuWriteIn Board m c a = chrAt m c a
+unfoldable pub ppuWriteIn : Mode → Mmc3 → ℕ → Window
+ppuWriteIn House m a = Nothing
+ppuWriteIn Board m a = Chr1K (chrBank m (a / 1024))
 
 -- house: no byte lands, but 14 may be due; board: where it would be read
-unfoldable pub romWriteIn : Mode → Mmc3 → Cartridge → ℕ → Place
+unfoldable pub romWriteIn : Mode → Mmc3 → Cartridge → ℕ → Window
 romWriteIn House m c a = acknowledged m a
-romWriteIn Board m c a = prgAt m c a
+romWriteIn Board m c a = Prg8K (prgBank m c a)
 
--- where a write lands in each mode
-unfoldable pub writePlaceIn : Mode → Mmc3 → Cartridge → ℕ → Place
-writePlaceIn mode m c a = inWindows (ppuWriteIn mode m c a) (romWriteIn mode m c a) a
+-- what a write finds in each mode
+unfoldable pub writeWindowIn : Mode → Mmc3 → Cartridge → ℕ → Window
+writeWindowIn mode m c a = inWindows (ppuWriteIn mode m a) (romWriteIn mode m c a) a
 
 -- in the mode that the cartridge has
-abbrev pub writePlace : Mmc3 → Cartridge → ℕ → Place
-writePlace m c a = writePlaceIn (c .mode) m c a
+abbrev pub writeWindow : Mmc3 → Cartridge → ℕ → Window
+writeWindow m c a = writeWindowIn (c .mode) m c a

@@ -3,10 +3,10 @@ use Prim.Native.Nat.{ℕ, _*_, _/_, _%_}
 use mathlib.Core.Bool.{Bool, true, false, cond}
 use lib.Dec.{ltb, leb, eqb}
 use lib.ListN.{set}
-use Rattle.cartridge.specs.declared.Mirroring.{Mirroring}
-use Rattle.cartridge.specs.declared.Mirroring.the-variants.{Horizontal, Vertical}
-use Rattle.cartridge.specs.declared.Mirrors.{Mirrors}
-use Rattle.cartridge.specs.declared.Mirrors.the-variants.{AsBefore, As}
+use Rattle.common.specs.declared.Mirroring.{Mirroring}
+use Rattle.common.specs.declared.Mirroring.the-variants.{Horizontal, Vertical}
+use Rattle.common.specs.declared.Mirrors.{Mirrors}
+use Rattle.common.specs.declared.Mirrors.the-variants.{AsBefore, As}
 use Rattle.mmc3.specs.Clock.{withIrq}
 use Rattle.mmc3.specs.declared.Mmc3.{Mmc3}
 use Rattle.mmc3.specs.declared.Move.{Move}

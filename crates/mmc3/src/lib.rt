@@ -1,16 +1,20 @@
 // MMC3: eight bank registers, and a counter that asks for an interrupt. Ported from potatis nes/src/mappers/mmc3.rs.
 ghost use mathlib.Core.Path.{_≡_};
+ghost use Prim.Native.Nat.{_/_};
+ghost use Rattle.places.specs.Windows.{landsIn};
+ghost use Rattle.places.specs.Windows.Window.{Chr1K, Prg8K};
 ghost use Rattle.mmc3.specs.Clock.{at, houseClock, nextCounter, boardClock, clockIn, clocked, isPending};
 ghost use Rattle.mmc3.specs.Write.{moveOf, keptBits, applied, screens, mirrorsOf, written};
-ghost use Rattle.mmc3.specs.Read.{choice, register, chrBank, lastBank, lastButOne, prgBank, chrAt, prgAt, readPlace, acknowledged, writePlace};
+ghost use Rattle.mmc3.specs.Read.{choice, register, chrBank, lastBank, lastButOne, prgBank, readWindow, acknowledged, writeWindow};
 ghost use Rattle.mmc3.specs.Range.{start, irqIsStart, isStart, fits};
 use banks::Bank1K;
 use banks::Bank8K;
 use cartridge::Cartridge;
-use cartridge::Mirroring;
-use cartridge::Mirrors;
-use cartridge::Refusal;
+use common::Mirroring;
+use common::Mirrors;
 use common::Mode;
+use common::Refusal;
+use places::Landing;
 use places::Place;
 
 // The interrupt unit.
@@ -347,57 +351,58 @@ impl Mmc3 {
         }
     }
 
-    fn read_chr(self, cart: Cartridge, address: u16) -> Place
-        ensures { λ r. ⌜ r ≡ chrAt self cart address ⌝ }
+    fn read_chr(self, cart: Cartridge, address: u16) -> Landing
+        ensures { λ r. ⌜ r ≡ landsIn cart (Chr1K (chrBank self (address / 1024))) address ⌝ }
     {
-        places::chr_place_1k(cart, self.chr_bank(address / 1024), address % 1024)
+        places::chr_1k(cart, self.chr_bank(address / 1024), address)
     }
 
-    fn read_prg(self, cart: Cartridge, address: u16) -> Place
-        ensures { λ r. ⌜ r ≡ prgAt self cart address ⌝ }
+    fn read_prg(self, cart: Cartridge, address: u16) -> Landing
+        ensures { λ r. ⌜ r ≡ landsIn cart (Prg8K (prgBank self cart address)) address ⌝ }
     {
-        places::prg_place_8k(cart, self.prg_bank(cart, address), address % 8192)
+        places::prg_8k(cart, self.prg_bank(cart, address), address)
     }
 
-    pub fn read_place(self, cart: Cartridge, address: u16) -> Place
-        ensures { λ r. ⌜ r ≡ readPlace self cart address ⌝ }
+    pub fn read_landing(self, cart: Cartridge, address: u16) -> Landing
+        ensures { λ r. ⌜ r ≡ landsIn cart (readWindow self cart address) address ⌝ }
     {
         match address {
             0x0000..=0x1fff => self.read_chr(cart, address),
-            0x6000..=0x7fff => Place::PrgRam((address - 0x6000) as usize),
+            0x6000..=0x7fff => places::prg_ram(cart, address),
             0x8000..=0xffff => self.read_prg(cart, address),
-            _ => Place::Zero,
+            _ => Landing::At(Place::Nowhere),
         }
     }
 
-    fn acknowledged(self, address: u16) -> Place
-        ensures { λ r. ⌜ r ≡ acknowledged self address ⌝ }
+    // The Rust panics at an acknowledging write while an interrupt is due; else no byte lands.
+    fn acknowledged(self, cart: Cartridge, address: u16) -> Landing
+        ensures { λ r. ⌜ r ≡ landsIn cart (acknowledged self address) address ⌝ }
     {
         let irq = self.irq;
         let pending = irq.is_pending() & (0xe000 <= address) & (address % 2 == 0);
         if pending {
-            Place::Refused(Refusal::IrqPending)
+            Landing::Refused(Refusal::IrqPending)
         } else {
-            Place::Zero
+            Landing::At(Place::Nowhere)
         }
     }
 
-    // Where a read of it would land on the real board, and by rules of its own in the Rust.
-    pub fn write_place(self, cart: Cartridge, address: u16) -> Place
-        ensures { λ r. ⌜ r ≡ writePlace self cart address ⌝ }
+    // On the real board a byte is stored where it would be read; the Rust has rules of its own.
+    pub fn write_landing(self, cart: Cartridge, address: u16) -> Landing
+        ensures { λ r. ⌜ r ≡ landsIn cart (writeWindow self cart address) address ⌝ }
     {
         let mode = cart.mode;
         match address {
             0x0000..=0x1fff => match mode {
-                Mode::House => Place::Zero,
+                Mode::House => Landing::At(Place::Nowhere),
                 Mode::Board => self.read_chr(cart, address),
             },
-            0x6000..=0x7fff => Place::PrgRam((address - 0x6000) as usize),
+            0x6000..=0x7fff => places::prg_ram(cart, address),
             0x8000..=0xffff => match mode {
-                Mode::House => self.acknowledged(address),
+                Mode::House => self.acknowledged(cart, address),
                 Mode::Board => self.read_prg(cart, address),
             },
-            _ => Place::Zero,
+            _ => Landing::At(Place::Nowhere),
         }
     }
 

@@ -1,2 +1,1 @@
 pub mod Nrom
-pub mod Steps

@@ -1,39 +1,22 @@
--- NROM: where a read and a write land.
-use Prim.Native.Nat.{ℕ, _-_}
+-- NROM: what a read and a write find at an address.
+use Prim.Native.Nat.{ℕ}
 use mathlib.Core.Bool.{cond}
-use lib.Dec.{ltb, eqb}
-use Rattle.common.specs.Common.{KB8, KB16}
+use lib.Dec.{ltb}
 use Rattle.common.specs.declared.Mode.{Mode}
 use Rattle.common.specs.declared.Mode.the-variants.{House, Board}
 use Rattle.cartridge.specs.declared.Cartridge.{Cartridge}
-use Rattle.places.specs.Places.{prgPlace, chrPlace, housePpuWrite}
-use Rattle.places.specs.declared.Place.{Place}
-use Rattle.places.specs.declared.Place.the-variants.{Zero}
+use Rattle.places.specs.Windows.{Window, fixedPrg, houseChrRam}
+use Rattle.places.specs.Windows.Window.{Chr8K}
 
--- "C000-FFFF second, or first again if only one"
-unfoldable pub secondBlock : Cartridge → ℕ
-secondBlock c = cond (eqb (c .prg) 1) 0 1
+-- "PPU reads CHR"; "8000-BFFF first PRG block; C000-FFFF second, or first again if only one"
+unfoldable pub readWindow : Cartridge → ℕ → Window
+readWindow c a = cond (ltb a 0x2000) (Chr8K 0) (fixedPrg c a)
 
--- "8000-BFFF first PRG block"
-unfoldable pub fixedPrg : Cartridge → ℕ → Place
-fixedPrg c a =
-    cond (ltb a 0x8000) Zero
-    (cond (ltb a 0xC000) (prgPlace c KB16 0 (a - 0x8000))
-    (prgPlace c KB16 (secondBlock c) (a - 0xC000)))
-
--- "PPU reads CHR"
-unfoldable pub readPlace : Cartridge → ℕ → Place
-readPlace c a = cond (ltb a 0x2000) (chrPlace c KB8 0 a) (fixedPrg c a)
-
--- house: PPU "writes CHR RAM"
-unfoldable pub houseWritePlace : Cartridge → ℕ → Place
-houseWritePlace c a = cond (ltb a 0x2000) (housePpuWrite c a) Zero
-
--- board: "CHR RAM is read and written through the banks, on all boards"
-unfoldable pub writePlaceIn : Mode → Cartridge → ℕ → Place
-writePlaceIn House c a = houseWritePlace c a
-writePlaceIn Board c a = readPlace c a
+-- house: PPU "writes CHR RAM"; board: "CHR RAM is read and written through the banks, on all boards"
+unfoldable pub writeWindowIn : Mode → Cartridge → ℕ → Window
+writeWindowIn House c a = houseChrRam c a
+writeWindowIn Board c a = readWindow c a
 
 -- in the mode that the cartridge has
-abbrev pub writePlace : Cartridge → ℕ → Place
-writePlace c a = writePlaceIn (c .mode) c a
+abbrev pub writeWindow : Cartridge → ℕ → Window
+writeWindow c a = writeWindowIn (c .mode) c a

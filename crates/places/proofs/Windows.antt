@@ -11,22 +11,22 @@ use Rattle.banks.specs.declared.Start.{Start}
 use Rattle.banks.specs.declared.Start.the-variants.{At, PastEnd}
 use Rattle.cartridge.specs.Load.{prgTotal, chrTotal, hasChrRam, prgRom, chrRom, chrData}
 use Rattle.cartridge.specs.declared.Cartridge.{Cartridge}
-use Rattle.places.specs.Places.{prgAt, chrAt, prgPlace, chrPlace, byteOf}
+use Rattle.places.specs.Places.{prgAt, chrAt, inPrg, inChr, byteAt, byteOf}
 
 module _ (c : Cartridge) (image prg chr : List ℕ) (size n i : ℕ) (h : i < size) where
-  pub prg-byte : byte (bankOf (prgRom image) (bankStart (c .mode) n size (prgTotal c)) size) i ≡ byteOf c (prgPlace c size n i) image prg chr
-  unfolding prgPlace bankOf prgAt byteOf
+  pub prg-byte : byte (bankOf (prgRom image) (bankStart (c .mode) n size (prgTotal c)) size) i ≡ byteAt c (inPrg c size n i) image prg chr
+  unfolding inPrg bankOf prgAt byteAt byteOf
   prg-byte = go (bankStart (c .mode) n size (prgTotal c))
     where
-      go : (s : Start) → byte (bankOf (prgRom image) s size) i ≡ byteOf c (prgAt s i) image prg chr
+      go : (s : Start) → byte (bankOf (prgRom image) s size) i ≡ byteAt c (prgAt s i) image prg chr
       go (At a) = getD-part size a (prgRom image) i h
       go PastEnd = refl
 
-  pub chr-byte : byte (bankOf (chrData c image chr) (bankStart (c .mode) n size (chrTotal c)) size) i ≡ byteOf c (chrPlace c size n i) image prg chr
-  unfolding chrPlace chrData bankOf chrAt byteOf
+  pub chr-byte : byte (bankOf (chrData c image chr) (bankStart (c .mode) n size (chrTotal c)) size) i ≡ byteAt c (inChr c size n i) image prg chr
+  unfolding inChr chrData bankOf chrAt byteAt byteOf
   chr-byte = go (hasChrRam c) (bankStart (c .mode) n size (chrTotal c))
     where
-      go : (ram : Bool) (s : Start) → byte (bankOf (cond ram chr (chrRom c image)) s size) i ≡ byteOf c (chrAt ram s i) image prg chr
+      go : (ram : Bool) (s : Start) → byte (bankOf (cond ram chr (chrRom c image)) s size) i ≡ byteAt c (chrAt ram s i) image prg chr
       go true (At a) = getD-part size a chr i h
       go false (At a) = getD-part size a (chrRom c image) i h
       go true PastEnd = refl

@@ -1,23 +1,28 @@
--- The six parts that the code tests are what makes words a board's: of the words that a mapper has nothing in, the digits are at their start just where the
--- words are those of the start. Assumes nothing.
+-- The four parts that the code tests are what makes words a board's: a word is that of a row exactly where it has the row's digits and nothing above the
+-- last. Assumes nothing.
 use Prim.Native.Nat.{ℕ, zero, suc, _<_}
-use mathlib.Core.Path.{_≡_, refl, sym, ap, ap₂, subst, subst⁻¹, _∙_}
-use mathlib.Core.Bool.{Bool, true, false, cond, not, _&&_, _||_}
-use mathlib.Core.List.{List}
+use mathlib.Core.Path.{_≡_, refl, sym, ap, _∙_}
+use mathlib.Core.Bool.{Bool, true, false, cond, not, _&&_, and-assoc, and-comm, and-true}
+use mathlib.Core.List.{List, [], _∷_}
+use mathlib.Core.Logic.{_↔_}
 use native.Mathlib.Omega.{arith}
-use borrow.Author.Tests.{eqb-true, eq-eqb, lt-ltb}
+use borrow.Author.Tests.{ltb-true, eqb-true, eq-eqb, lt-ltb}
 use lib.Dec.{eqb, ltb, leb}
+use mir.Val.{boolByte}
 use Rattle.rules.specs.Rows.{bytes, digit, Fits}
-use Rattle.rules.specs.Flat.{flatDigits}
+use Rattle.rules.specs.Flat.{flatDigits, flatWord}
 use Rattle.rules.proofs.Bools.{and-left, and-right, and-both, split-3, split-4}
-use Rattle.rules.proofs.Flat.{flat-there}
-use Rattle.common.specs.Common.{modeOf}
+use Rattle.rules.proofs.Flat.{flat-there, flat-back, flat-small}
+use Rattle.common.specs.Common.{modeNumber, modeOf}
+use Rattle.common.specs.Answers.{isHeaders}
+use Rattle.common.specs.Answers as mirrorings
 use Rattle.common.specs.declared.Mode.the-variants.{House, Board as OnBoard}
-use Rattle.cartridge.specs.Answers as mirrorings
-use Rattle.cartridge.specs.Answers.{isMapper, mapperNumber}
-use Rattle.cartridge.specs.Load.{badPrg, oddCounts, needed, isHeaders, couldLoad}
+use Rattle.cartridge.specs.Load.{badPrg, needed, couldLoad}
+use Rattle.cartridge.specs.Mappers.{isMapper, mapperNumber}
+use Rattle.cartridge.specs.Steps.{oddBits}
 use Rattle.cartridge.specs.declared.MapperType.{MapperType}
 use Rattle.cartridge.specs.declared.MapperType.the-variants.{Nrom, Mmc1, Uxrom, Cnrom, Mmc3}
+use Rattle.cartridge.proofs.OneBit.{by-bits}
 use Rattle.uxrom.specs.Uxrom as uxrom
 use Rattle.uxrom.specs.declared.Uxrom as uxrom-type
 use Rattle.cnrom.specs.Cnrom as cnrom
@@ -29,10 +34,11 @@ use Rattle.mmc3.specs.Read.{register}
 use Rattle.mmc3.specs.declared.Mmc3 as mmc3-type
 use Rattle.boards.specs.Range.{turnedFit, screensFit, screensKept, mirroringFits, inRange}
 use Rattle.boards.specs.Registers.{partFits, fits}
-use Rattle.states.specs.Words.{cartSizes, mirroringOf, mapperOf, cartOf, screensOf, banksSizes, banksDigits, banksWord, uxromOf, cnromOf, mmc1Of, regsWord, irqSizes, irqWord, mmc3Of, wordsOf, boardIn, same}
+use Rattle.states.specs.Words.{mirroringDigit, mirroringOf, cartSizes, cartWord, mapperOf, cartOf, screensOf, banksSizes, banksDigits, banksWord, uxromOf, cnromOf, mmc1Of, regsWord, irqSizes, irqWord, mmc3Of, wordsOf, boardIn, same}
 use Rattle.states.specs.Kept.{isKept}
-use Rattle.states.specs.Steps.{cartAs, couldLoadIn, prgFits, screensAreKept, cartIsWhole, mmc1IsKept, banksAreKept, mmc3Fits, mmc3IsKept, inParts}
+use Rattle.states.specs.Steps.{cartIsKept, modeIsKept, mmc1IsKept, banksAreKept, mmc3Fits, mmc3IsKept, inParts}
 use Rattle.states.specs.declared.Words.{Words}
+use Rattle.states.proofs.Digits.{mapper-small}
 use Rattle.states.proofs.Starts.{uxrom-start, cnrom-start, mmc1-unused, mmc3-start}
 
 both-ways : (x y : Bool) → (x ≡ true → y ≡ true) → (y ≡ true → x ≡ true) → x ≡ y
@@ -41,7 +47,117 @@ both-ways true false f g = sym (f refl)
 both-ways false true f g = g refl
 both-ways false false f g = refl
 
--- what a word of banks holds of each board, and that it holds nothing beside
+turn : (m n : ℕ) → eqb m n ≡ eqb n m
+turn m n = both-ways (eqb m n) (eqb n m) (λ h. eq-eqb n m (sym (eqb-true m n h))) (λ h. eq-eqb m n (sym (eqb-true n m h)))
+
+-- by these three a conjunction's tests may stand in any order
+and-swap : (x y z : Bool) → (x && (y && z)) ≡ (y && (x && z))
+and-swap true y z = refl
+and-swap false true z = refl
+and-swap false false z = refl
+
+ruleset order = (and-assoc, and-comm, and-swap)
+
+join : (l w h p s n x o : Bool) → (((l && w) && h && p && s && n) && (x && o)) ≡ (((p && o) && (s && l && n) && h) && x && w)
+join l w h p s n x o = simp order
+
+third : (f u c w : Bool) → (f && (u && c && true && w)) ≡ (u && c && f && w)
+third f u c w = simp (order, and-true)
+
+-- by the mode
+in-mode : (z : Bool) (k : MapperType) (s h : Bool) (prg chr : ℕ)
+    → cond z s (not (oddBits OnBoard prg chr) && turnedFit k s h) ≡ (screensFit (cond z House OnBoard) k s h && not (oddBits (cond z House OnBoard) prg chr))
+unfolding screensFit oddBits
+in-mode true k s h prg chr = sym (and-true s)
+in-mode false k s h prg chr = and-comm (not (oddBits OnBoard prg chr)) (turnedFit k s h)
+
+-- each digit is the one of its enum
+by-bit : (P : ℕ → Type 0) → P 0 → P 1 → (d : ℕ) → d < 2 → P d
+by-bit P a b zero h = a
+by-bit P a b (suc zero) h = b
+by-bit P a b (suc (suc d)) h = absurd (omega arith)
+
+by-digit : (P : ℕ → Type 0) → P 0 → P 1 → P 2 → P 3 → (d : ℕ) → d < 4 → P d
+by-digit P a b c e zero h = a
+by-digit P a b c e (suc zero) h = b
+by-digit P a b c e (suc (suc d)) h = by-bit (λ (x : ℕ). P (suc (suc x))) c e d (omega arith)
+
+mode-back : (d : ℕ) → d < 2 → modeNumber (modeOf d) ≡ d
+unfolding modeOf
+mode-back = by-bit (λ (x : ℕ). modeNumber (modeOf x) ≡ x) refl refl
+
+mark-back : (d : ℕ) → d < 2 → boolByte (eqb d 1) ≡ d
+mark-back = by-bit (λ (x : ℕ). boolByte (eqb x 1) ≡ x) refl refl
+
+screens-back : (d : ℕ) → d < 4 → mirroringDigit (mirroringOf d) ≡ d
+unfolding mirroringOf
+screens-back = by-digit (λ (x : ℕ). mirroringDigit (mirroringOf x) ≡ x) refl refl refl refl
+
+is-headers : (d : ℕ) → d < 4 → ltb d 2 ≡ isHeaders (mirroringOf d)
+unfolding mirroringOf
+is-headers = by-digit (λ (x : ℕ). ltb x 2 ≡ isHeaders (mirroringOf x)) refl refl refl refl
+
+abbrev OneScreen : ℕ → ℕ → Type 0
+OneScreen x y = eqb x y ≡ mirrorings.same (mirroringOf x) (mirroringOf y)
+
+one-screen : (a b : ℕ) → a < 4 → b < 4 → OneScreen a b
+unfolding mirrorings.same mirroringOf
+one-screen a b p q =
+    by-digit (λ (x : ℕ). OneScreen x b) (by-digit (OneScreen 0) refl refl refl refl b q) (by-digit (OneScreen 1) refl refl refl refl b q)
+    (by-digit (OneScreen 2) refl refl refl refl b q) (by-digit (OneScreen 3) refl refl refl refl b q) a p
+
+module _ (c length : ℕ) where
+  abbrev d : List ℕ
+  d = flatDigits cartSizes c
+
+  abbrev k : MapperType
+  k = mapperOf d
+
+  -- what the first word packed again has
+  abbrev again : List ℕ
+  again = 1 ∷ mapperNumber k ∷ digit d 2 ∷ digit d 3 ∷ digit d 4 ∷ digit d 5 ∷ 1 ∷ digit d 7 ∷ digit d 8 ∷ []
+
+  packed : cartWord (cartOf d length) (screensOf d) ≡ flatWord cartSizes again
+  packed =
+      λ i. flatWord cartSizes
+      (1 ∷ mapperNumber k ∷ mode-back (digit d 2) (omega arith) i ∷ mark-back (digit d 3) (omega arith) i ∷ screens-back (digit d 4) (omega arith) i
+      ∷ screens-back (digit d 5) (omega arith) i ∷ 1 ∷ digit d 7 ∷ digit d 8 ∷ [])
+
+  whole : (eqb (digit d 0) 1 && eqb (digit d 1) (mapperNumber k) && eqb (digit d 6) 1 && ltb c 0x100000000000)
+      ≡ (ltb (digit d 8) 256 && eqb (cartWord (cartOf d length) (screensOf d)) c)
+  whole =
+      both-ways (eqb (digit d 0) 1 && eqb (digit d 1) (mapperNumber k) && eqb (digit d 6) 1 && ltb c 0x100000000000) _
+      (λ h. let p = split-4 (eqb (digit d 0) 1) (eqb (digit d 1) (mapperNumber k)) (eqb (digit d 6) 1) (ltb c 0x100000000000) h in
+      let l = ltb-true c 0x100000000000 (p .3) in
+      let e : d ≡ again =
+      λ i. eqb-true (digit d 0) 1 (p .0) i ∷ eqb-true (digit d 1) (mapperNumber k) (p .1) i ∷ digit d 2 ∷ digit d 3 ∷ digit d 4 ∷ digit d 5 ∷ eqb-true (digit d 6) 1 (p .2) i ∷ digit d 7 ∷ digit d 8 ∷ [] in
+      and-both (ltb (digit d 8) 256) _ (lt-ltb (digit d 8) 256 (omega arith)) (eq-eqb _ c (packed ∙ sym (ap (flatWord cartSizes) e) ∙ flat-back cartSizes c (omega arith))))
+      (λ h. let f : Fits cartSizes again = search (arith, mapper-small) in
+      let l = ltb-true (digit d 8) 256 (and-left (ltb (digit d 8) 256) (eqb (cartWord (cartOf d length) (screensOf d)) c) h) in
+      let w : flatWord cartSizes again ≡ c = sym packed ∙ eqb-true _ c (and-right (ltb (digit d 8) 256) (eqb (cartWord (cartOf d length) (screensOf d)) c) h) in
+      let e : d ≡ again = ap (flatDigits cartSizes) (sym w) ∙ flat-there cartSizes again f in
+      simp (eq-eqb (digit d 0) 1 (ap (λ (t : List ℕ). digit t 0) e), eq-eqb (digit d 1) (mapperNumber k) (ap (λ (t : List ℕ). digit t 1) e), eq-eqb (digit d 6) 1 (ap (λ (t : List ℕ). digit t 6) e), lt-ltb c 0x100000000000 (omega (arith, flat-small cartSizes again f))))
+
+  mode-of : modeIsKept k c ≡ (screensKept (cartOf d length) (screensOf d) && not (oddBits (modeOf (digit d 2)) (digit d 7) (digit d 8)))
+  unfolding modeIsKept modeOf
+  mode-of =
+      in-mode (eqb (digit d 2) 0) k (eqb (digit d 5) (digit d 4)) (ltb (digit d 5) 2) (digit d 7) (digit d 8)
+      ∙ (λ i. screensFit (modeOf (digit d 2)) k (one-screen (digit d 5) (digit d 4) (omega arith) (omega arith) i) (is-headers (digit d 5) (omega arith) i) && not (oddBits (modeOf (digit d 2)) (digit d 7) (digit d 8)))
+
+  cart-of : (cartIsKept k c length && modeIsKept k c)
+      ≡ (couldLoad (cartOf d length) && screensKept (cartOf d length) (screensOf d) && eqb (cartWord (cartOf d length) (screensOf d)) c)
+  unfolding cartIsKept
+  cart-of =
+      let p = not (badPrg (mapperNumber k) (digit d 7)) in
+      let s = ltb (digit d 7) 256 in
+      let n = leb (needed (digit d 7) (digit d 8)) length in
+      let x = screensKept (cartOf d length) (screensOf d) in
+      let w = eqb (cartWord (cartOf d length) (screensOf d)) c in
+      (λ i. (whole i && is-headers (digit d 4) (omega arith) i && p && s && n) && mode-of i)
+      ∙ join (ltb (digit d 8) 256) w (isHeaders (mirroringOf (digit d 4))) p s n x (not (oddBits (modeOf (digit d 2)) (digit d 7) (digit d 8)))
+      ∙ ap (λ (y : Bool). y && x && w) (by-bits (cartOf d length))
+
+-- what a word of banks holds of each board
 abbrev fitsBanks : MapperType → List ℕ → Bool
 fitsBanks k d =
     partFits k Uxrom true (uxrom.isStart (uxromOf d))
@@ -52,205 +168,60 @@ abbrev wordOf : List ℕ → ℕ
 wordOf d = banksWord (uxromOf d) (cnromOf d) (mmc1Of d)
 
 module _ (b : ℕ) where
-  -- a word of parts that fit has just their digits
-  holds : (u : uxrom-type.Uxrom) (c : cnrom-type.Cnrom) (m : mmc1-type.Mmc1) → Fits banksSizes (banksDigits u c m) → eqb (banksWord u c m) b ≡ true
-      → flatDigits banksSizes b ≡ banksDigits u c m
-  holds u c m f e = ap (flatDigits banksSizes) (sym (eqb-true (banksWord u c m) b e)) ∙ flat-there banksSizes (banksDigits u c m) f
+  abbrev d₂ : List ℕ
+  d₂ = flatDigits banksSizes b
 
-  word-holds : (u : uxrom-type.Uxrom) (c : cnrom-type.Cnrom) (m : mmc1-type.Mmc1) → flatDigits banksSizes b ≡ banksDigits u c m → eqb (banksWord u c m) b ≡ true
-      → eqb (wordOf (flatDigits banksSizes b)) b ≡ true
-  word-holds u c m e w = ap (λ (t : List ℕ). eqb (wordOf t) b) e ∙ w
+  -- the word is that of three parts exactly where it holds them and nothing beside
+  of-parts : (u : uxrom-type.Uxrom) (c : cnrom-type.Cnrom) (m : mmc1-type.Mmc1) (x y z : Bool) → Fits banksSizes (banksDigits u c m)
+      → (x ≡ true) ↔ (uxromOf d₂ ≡ u) → (y ≡ true) ↔ (cnromOf d₂ ≡ c) → (z ≡ true) ↔ (mmc1Of d₂ ≡ m) → eqb (banksWord u c m) b ≡ (x && y && z && eqb (wordOf d₂) b)
+  of-parts u c m x y z f p q r =
+      both-ways (eqb (banksWord u c m) b) (x && y && z && eqb (wordOf d₂) b)
+      (λ h. let e : d₂ ≡ banksDigits u c m = ap (flatDigits banksSizes) (sym (eqb-true (banksWord u c m) b h)) ∙ flat-there banksSizes (banksDigits u c m) f in
+      let w : eqb (wordOf d₂) b ≡ true = ap (λ (t : List ℕ). eqb (wordOf t) b) e ∙ h in
+      simp (p .1 (ap uxromOf e), q .1 (ap cnromOf e), r .1 (ap mmc1Of e), w))
+      (λ h. let s = split-4 x y z (eqb (wordOf d₂) b) h in
+      sym (λ i. eqb (banksWord (p .0 (s .0) i) (q .0 (s .1) i) (r .0 (s .2) i)) b) ∙ s .3)
 
-  -- where the others are at their start, the word is that of the parts
-  word-of : (u : uxrom-type.Uxrom) (c : cnrom-type.Cnrom) (m : mmc1-type.Mmc1) → uxromOf (flatDigits banksSizes b) ≡ u → cnromOf (flatDigits banksSizes b) ≡ c
-      → mmc1Of (flatDigits banksSizes b) ≡ m → eqb (wordOf (flatDigits banksSizes b)) b ≡ true → eqb (banksWord u c m) b ≡ true
-  word-of u c m p q r w = sym (λ i. eqb (banksWord (p i) (q i) (r i)) b) ∙ w
+  no-bank : eqb b 0 ≡ (uxrom.isStart (uxromOf d₂) && cnrom.isStart (cnromOf d₂) && mmc1.isUnused (mmc1Of d₂) && eqb (wordOf d₂) b)
+  no-bank = turn b 0 ∙ of-parts uxrom.start cnrom.start mmc1.unused _ _ _ (search arith) (uxrom-start (uxromOf d₂)) (cnrom-start (cnromOf d₂)) (mmc1-unused (mmc1Of d₂))
 
-  -- no bank is this board's
-  no-bank : eqb b 0
-      ≡ (uxrom.isStart (uxromOf (flatDigits banksSizes b)) && cnrom.isStart (cnromOf (flatDigits banksSizes b)) && mmc1.isUnused (mmc1Of (flatDigits banksSizes b))
-      && eqb (wordOf (flatDigits banksSizes b)) b)
-  unfolding mmc1.isUnused
-  no-bank =
-      both-ways (eqb b 0) _
-      (λ h. subst⁻¹ (λ (x : ℕ). (uxrom.isStart (uxromOf (flatDigits banksSizes x)) && cnrom.isStart (cnromOf (flatDigits banksSizes x)) && mmc1.isUnused (mmc1Of (flatDigits banksSizes x)) && eqb (wordOf (flatDigits banksSizes x)) x) ≡ true) (eqb-true b 0 h) refl)
-      (λ h. let p = split-4 (uxrom.isStart (uxromOf (flatDigits banksSizes b))) (cnrom.isStart (cnromOf (flatDigits banksSizes b))) (mmc1.isUnused (mmc1Of (flatDigits banksSizes b))) (eqb (wordOf (flatDigits banksSizes b)) b) h in
-      eq-eqb b 0 (sym (eqb-true 0 b (word-of uxrom.start cnrom.start mmc1.unused (uxrom-start _ (p .0)) (cnrom-start _ (p .1)) (mmc1-unused _ (p .2)) (p .3)))))
-
-  mmc1-banks : mmc1IsKept b
-      ≡ (uxrom.isStart (uxromOf (flatDigits banksSizes b)) && cnrom.isStart (cnromOf (flatDigits banksSizes b)) && mmc1.fits (mmc1Of (flatDigits banksSizes b))
-      && eqb (wordOf (flatDigits banksSizes b)) b)
-  unfolding mmc1IsKept
-  mmc1-banks =
-      let m = mmc1Of (flatDigits banksSizes b) in
-      both-ways (mmc1.fits m && eqb (banksWord uxrom.start cnrom.start m) b) _
-      (λ h. let w = and-right (mmc1.fits m) (eqb (banksWord uxrom.start cnrom.start m) b) h in
-      let e = holds uxrom.start cnrom.start m (search arith) w in
-      and-both (uxrom.isStart (uxromOf (flatDigits banksSizes b)) && cnrom.isStart (cnromOf (flatDigits banksSizes b)) && mmc1.fits m) _
-      (and-both (uxrom.isStart (uxromOf (flatDigits banksSizes b)) && cnrom.isStart (cnromOf (flatDigits banksSizes b))) _
-      (and-both (uxrom.isStart (uxromOf (flatDigits banksSizes b))) _ (ap (λ (t : List ℕ). uxrom.isStart (uxromOf t)) e) (ap (λ (t : List ℕ). cnrom.isStart (cnromOf t)) e))
-      (and-left (mmc1.fits m) (eqb (banksWord uxrom.start cnrom.start m) b) h))
-      (word-holds uxrom.start cnrom.start m e w))
-      (λ h. let p = split-4 (uxrom.isStart (uxromOf (flatDigits banksSizes b))) (cnrom.isStart (cnromOf (flatDigits banksSizes b))) (mmc1.fits m) (eqb (wordOf (flatDigits banksSizes b)) b) h in
-      and-both (mmc1.fits m) _ (p .2) (word-of uxrom.start cnrom.start m (uxrom-start _ (p .0)) (cnrom-start _ (p .1)) refl (p .3)))
-
-  uxrom-banks : eqb (banksWord (uxromOf (flatDigits banksSizes b)) cnrom.start mmc1.unused) b
-      ≡ (cnrom.isStart (cnromOf (flatDigits banksSizes b)) && mmc1.isUnused (mmc1Of (flatDigits banksSizes b)) && eqb (wordOf (flatDigits banksSizes b)) b)
-  unfolding mmc1.isUnused
-  uxrom-banks =
-      let u = uxromOf (flatDigits banksSizes b) in
-      both-ways (eqb (banksWord u cnrom.start mmc1.unused) b) _
-      (λ w. let e = holds u cnrom.start mmc1.unused (search arith) w in
-      and-both (cnrom.isStart (cnromOf (flatDigits banksSizes b)) && mmc1.isUnused (mmc1Of (flatDigits banksSizes b))) _
-      (and-both (cnrom.isStart (cnromOf (flatDigits banksSizes b))) _ (ap (λ (t : List ℕ). cnrom.isStart (cnromOf t)) e) (ap (λ (t : List ℕ). mmc1.isUnused (mmc1Of t)) e))
-      (word-holds u cnrom.start mmc1.unused e w))
-      (λ h. let p = split-3 (cnrom.isStart (cnromOf (flatDigits banksSizes b))) (mmc1.isUnused (mmc1Of (flatDigits banksSizes b))) (eqb (wordOf (flatDigits banksSizes b)) b) h in
-      word-of u cnrom.start mmc1.unused refl (cnrom-start _ (p .0)) (mmc1-unused _ (p .1)) (p .2))
-
-  cnrom-banks : eqb (banksWord uxrom.start (cnromOf (flatDigits banksSizes b)) mmc1.unused) b
-      ≡ (uxrom.isStart (uxromOf (flatDigits banksSizes b)) && cnrom.fits (cnromOf (flatDigits banksSizes b)) && mmc1.isUnused (mmc1Of (flatDigits banksSizes b))
-      && eqb (wordOf (flatDigits banksSizes b)) b)
-  unfolding mmc1.isUnused
-  cnrom-banks =
-      let c = cnromOf (flatDigits banksSizes b) in
-      both-ways (eqb (banksWord uxrom.start c mmc1.unused) b) _
-      (λ w. let e = holds uxrom.start c mmc1.unused (search arith) w in
-      and-both (uxrom.isStart (uxromOf (flatDigits banksSizes b)) && cnrom.fits c && mmc1.isUnused (mmc1Of (flatDigits banksSizes b))) _
-      (and-both (uxrom.isStart (uxromOf (flatDigits banksSizes b)) && cnrom.fits c) _
-      (and-both (uxrom.isStart (uxromOf (flatDigits banksSizes b))) _ (ap (λ (t : List ℕ). uxrom.isStart (uxromOf t)) e) (lt-ltb (c .bank) 4 (omega arith)))
-      (ap (λ (t : List ℕ). mmc1.isUnused (mmc1Of t)) e))
-      (word-holds uxrom.start c mmc1.unused e w))
-      (λ h. let p = split-4 (uxrom.isStart (uxromOf (flatDigits banksSizes b))) (cnrom.fits c) (mmc1.isUnused (mmc1Of (flatDigits banksSizes b))) (eqb (wordOf (flatDigits banksSizes b)) b) h in
-      word-of uxrom.start c mmc1.unused (uxrom-start _ (p .0)) refl (mmc1-unused _ (p .2)) (p .3))
-
-  banks-of : (k : MapperType) → banksAreKept k b ≡ (fitsBanks k (flatDigits banksSizes b) && eqb (wordOf (flatDigits banksSizes b)) b)
-  unfolding banksAreKept partFits isMapper
+  banks-of : (k : MapperType) → banksAreKept k b ≡ (fitsBanks k d₂ && eqb (wordOf d₂) b)
+  unfolding banksAreKept mmc1IsKept partFits isMapper
   banks-of Nrom = no-bank
-  banks-of Mmc1 = mmc1-banks
-  banks-of Uxrom = uxrom-banks
-  banks-of Cnrom = cnrom-banks
+  banks-of Mmc1 =
+      ap (λ (x : Bool). mmc1.fits (mmc1Of d₂) && x) (of-parts uxrom.start cnrom.start (mmc1Of d₂) _ _ true (search arith) (uxrom-start (uxromOf d₂)) (cnrom-start (cnromOf d₂)) (λ _. refl, λ _. refl))
+      ∙ third (mmc1.fits (mmc1Of d₂)) (uxrom.isStart (uxromOf d₂)) (cnrom.isStart (cnromOf d₂)) (eqb (wordOf d₂) b)
+  banks-of Uxrom = of-parts (uxromOf d₂) cnrom.start mmc1.unused true _ _ (search arith) (λ _. refl, λ _. refl) (cnrom-start (cnromOf d₂)) (mmc1-unused (mmc1Of d₂))
+  banks-of Cnrom = of-parts uxrom.start (cnromOf d₂) mmc1.unused _ (cnrom.fits (cnromOf d₂)) _ (search arith) (uxrom-start (uxromOf d₂)) (λ _. refl, λ _. lt-ltb (digit d₂ 1) 4 (omega arith)) (mmc1-unused (mmc1Of d₂))
   banks-of Mmc3 = no-bank
 
 module _ (r q : ℕ) where
   abbrev m : mmc3-type.Mmc3
   m = mmc3Of (flatDigits bytes r) (flatDigits irqSizes q)
 
-  -- MMC3 is another board's
-  idle : (eqb r 0 && eqb q 0x1000000) ≡ (mmc3.isStart m && eqb (regsWord (m .regs)) r && eqb (irqWord m) q)
-  unfolding mmc3.isStart mmc3.irqIsStart mmc3.start register
-  idle =
+  -- by whether MMC3 is its own board's
+  mmc3-of : (t : Bool) → cond t (mmc3Fits m r q) (eqb r 0 && eqb q 0x1000000) ≡ (cond t (mmc3.fits m) (mmc3.isStart m) && eqb (regsWord (m .regs)) r && eqb (irqWord m) q)
+  unfolding mmc3Fits mmc3.isStart mmc3.irqIsStart mmc3.start register
+  mmc3-of true = refl
+  mmc3-of false =
       both-ways (eqb r 0 && eqb q 0x1000000) _
-      (λ h. subst⁻¹ (λ (x : ℕ). (mmc3.isStart (mmc3Of (flatDigits bytes x) (flatDigits irqSizes q)) && eqb (regsWord (mmc3Of (flatDigits bytes x) (flatDigits irqSizes q) .regs)) x && eqb (irqWord (mmc3Of (flatDigits bytes x) (flatDigits irqSizes q))) q) ≡ true)
-      (eqb-true r 0 (and-left (eqb r 0) (eqb q 0x1000000) h))
-      (subst⁻¹ (λ (y : ℕ). (mmc3.isStart (mmc3Of (flatDigits bytes 0) (flatDigits irqSizes y)) && eqb (regsWord (mmc3Of (flatDigits bytes 0) (flatDigits irqSizes y) .regs)) 0 && eqb (irqWord (mmc3Of (flatDigits bytes 0) (flatDigits irqSizes y))) y) ≡ true)
-      (eqb-true q 0x1000000 (and-right (eqb r 0) (eqb q 0x1000000) h)) refl))
+      (λ h. rw (eqb-true r 0 (and-left (eqb r 0) (eqb q 0x1000000) h), eqb-true q 0x1000000 (and-right (eqb r 0) (eqb q 0x1000000) h)) refl)
       (λ h. let p = split-3 (mmc3.isStart m) (eqb (regsWord (m .regs)) r) (eqb (irqWord m) q) h in
-      let e = mmc3-start (flatDigits bytes r) (flatDigits irqSizes q) (p .0) in
-      and-both (eqb r 0) _
-      (eq-eqb r 0 (sym (eqb-true 0 r (sym (ap (λ (x : mmc3-type.Mmc3). eqb (regsWord (x .regs)) r) e) ∙ p .1))))
-      (eq-eqb q 0x1000000 (sym (eqb-true 0x1000000 q (sym (ap (λ (x : mmc3-type.Mmc3). eqb (irqWord x) q) e) ∙ p .2)))))
+      (λ i. turn r 0 i && turn q 0x1000000 i)
+      ∙ sym (ap (λ (x : mmc3-type.Mmc3). eqb (regsWord (x .regs)) r && eqb (irqWord x) q) (mmc3-start (flatDigits bytes r) (flatDigits irqSizes q) (p .0)))
+      ∙ simp (p .1, p .2))
 
-  mmc3-of : (k : MapperType) → mmc3IsKept k r q ≡ (partFits k Mmc3 (mmc3.fits m) (mmc3.isStart m) && eqb (regsWord (m .regs)) r && eqb (irqWord m) q)
-  unfolding mmc3IsKept mmc3Fits partFits isMapper
-  mmc3-of Nrom = idle
-  mmc3-of Mmc1 = idle
-  mmc3-of Uxrom = idle
-  mmc3-of Cnrom = idle
-  mmc3-of Mmc3 = refl
-
-none : (x : Bool) → (x && false) ≡ false
-none true = refl
-none false = refl
-
-always : (x : Bool) → (x && true) ≡ x
-always true = refl
-always false = refl
-
--- the two mirrorings by their digits
-by-digit : (P : ℕ → Type 0) → P 0 → P 1 → P 2 → P 3 → (d : ℕ) → d < 4 → P d
-by-digit P a b c e zero h = a
-by-digit P a b c e (suc zero) h = b
-by-digit P a b c e (suc (suc zero)) h = c
-by-digit P a b c e (suc (suc (suc zero))) h = e
-by-digit P a b c e (suc (suc (suc (suc d)))) h = absurd (omega arith)
-
-one-screen : (a b : ℕ) → a < 4 → b < 4 → mirrorings.same (mirroringOf a) (mirroringOf b) ≡ eqb a b
-unfolding mirrorings.same mirroringOf
-one-screen a b p q =
-    by-digit (λ (x : ℕ). mirrorings.same (mirroringOf x) (mirroringOf b) ≡ eqb x b)
-    (by-digit (λ (y : ℕ). mirrorings.same (mirroringOf 0) (mirroringOf y) ≡ eqb 0 y) refl refl refl refl b q)
-    (by-digit (λ (y : ℕ). mirrorings.same (mirroringOf 1) (mirroringOf y) ≡ eqb 1 y) refl refl refl refl b q)
-    (by-digit (λ (y : ℕ). mirrorings.same (mirroringOf 2) (mirroringOf y) ≡ eqb 2 y) refl refl refl refl b q)
-    (by-digit (λ (y : ℕ). mirrorings.same (mirroringOf 3) (mirroringOf y) ≡ eqb 3 y) refl refl refl refl b q)
-    a p
-
-is-headers : (a : ℕ) → a < 4 → isHeaders (mirroringOf a) ≡ ltb a 2
-unfolding mirroringOf
-is-headers a p = by-digit (λ (x : ℕ). isHeaders (mirroringOf x) ≡ ltb x 2) refl refl refl refl a p
-
-in-mode : (z : Bool) (k : MapperType) (s h : Bool) → cond z s (turnedFit k s h) ≡ screensFit (cond z House OnBoard) k s h
-unfolding screensFit
-in-mode true k s h = refl
-in-mode false k s h = refl
-
-screens-of : (c : ℕ) (k : MapperType) → screensAreKept k c ≡ screensKept (cartAs k (flatDigits cartSizes c) 0) (screensOf (flatDigits cartSizes c))
-unfolding screensAreKept modeOf
-screens-of c k =
-    let d = flatDigits cartSizes c in
-    in-mode (eqb (digit d 2) 0) k (eqb (digit d 5) (digit d 4)) (ltb (digit d 5) 2)
-    ∙ sym (ap₂ (λ (s h : Bool). screensFit (modeOf (digit d 2)) k s h) (one-screen (digit d 5) (digit d 4) (omega arith) (omega arith)) (is-headers (digit d 5) (omega arith)))
-
--- how many PRG blocks a board takes is a test of its own
-apart : (z t o y h : Bool) → (((not (z || false) && not o) && y && h) && not t) ≡ ((not (z || t) && not o) && y && h)
-apart true t o y h = refl
-apart false true true y h = refl
-apart false true false y h = none (y && h)
-apart false false true y h = refl
-apart false false false y h = always (y && h)
-
--- the same ten tests in another order
-regroup : (a p q r s m c b g i : Bool) → (a && m && c && (p && q && r && b) && (s && g && i)) ≡ ((a && (p && q && r && s) && m) && (c && true && b && g && i))
-regroup false p q r s m c b g i = refl
-regroup true false q r s m c b g i = rw (none (m && c)) refl
-regroup true true false r s m c b g i = rw (none (m && c)) refl
-regroup true true true false s m c b g i = rw (none (m && c)) refl
-regroup true true true true false m c b g i = rw (none (m && c && b)) refl
-regroup true true true true true false c b g i = refl
-regroup true true true true true true false b g i = refl
-regroup true true true true true true true false g i = refl
-regroup true true true true true true true true false i = refl
-regroup true true true true true true true true true i = refl
-
--- the first of six tests beside the second
-beside : (a f m c x y : Bool) → (a && (f && m && c && x && y)) ≡ ((a && f) && m && c && x && y)
-beside true f m c x y = refl
-beside false f m c x y = refl
-
-load-of : (c length : ℕ) (k : MapperType) → (couldLoadIn c length && prgFits k c) ≡ couldLoad (cartAs k (flatDigits cartSizes c) length)
-unfolding couldLoadIn prgFits couldLoad badPrg
-load-of c length k =
-    let d = flatDigits cartSizes c in
-    apart (eqb (digit d 7) 0) ((eqb (mapperNumber k) 0 || eqb (mapperNumber k) 3) && ltb 2 (digit d 7)) (oddCounts (modeOf (digit d 2)) (digit d 7) (digit d 8))
-    (ltb (digit d 7) 256 && ltb (digit d 8) 256 && leb (needed (digit d 7) (digit d 8)) length) (isHeaders (mirroringOf (digit d 4)))
+all : (a x w f b s g i l : Bool) → l ≡ true → ((a && x && w) && (f && b) && (s && g && i)) ≡ ((a && (f && s) && x) && (w && l && b && g && i))
+all a x w f b s g i l e = simp (e, order, and-true)
 
 pub in-parts : (w : Words) → inParts w ≡ isKept w
-unfolding isKept inRange fits mirroringFits same wordsOf boardIn cartIsWhole
+unfolding isKept inRange fits mirroringFits same wordsOf boardIn mmc3IsKept partFits
 in-parts w =
-    let d₀ = flatDigits cartSizes (w .cart) in
-    let k = mapperOf d₀ in
-    let d = flatDigits banksSizes (w .banks) in
-    let m3 = mmc3Of (flatDigits bytes (w .regs)) (flatDigits irqSizes (w .irq)) in
-    let a = couldLoad (cartOf d₀ (w .length)) in
-    let p = partFits k Uxrom true (uxrom.isStart (uxromOf d)) in
-    let q = partFits k Cnrom (cnrom.fits (cnromOf d)) (cnrom.isStart (cnromOf d)) in
-    let r = partFits k Mmc1 (mmc1.fits (mmc1Of d)) (mmc1.isUnused (mmc1Of d)) in
-    let s = partFits k Mmc3 (mmc3.fits m3) (mmc3.isStart m3) in
-    let m = screensKept (cartOf d₀ 0) (screensOf d₀) in
-    let c = cartIsWhole k (w .cart) in
-    let b = eqb (wordOf d) (w .banks) in
-    let g = eqb (regsWord (m3 .regs)) (w .regs) in
-    let i = eqb (irqWord m3) (w .irq) in
-    beside (couldLoadIn (w .cart) (w .length)) (prgFits k (w .cart)) (screensAreKept k (w .cart)) c (banksAreKept k (w .banks)) (mmc3IsKept k (w .regs) (w .irq))
-    ∙ (λ j. load-of (w .cart) (w .length) k j && screens-of (w .cart) k j && c && banks-of (w .banks) k j && mmc3-of (w .regs) (w .irq) k j)
-    ∙ regroup a p q r s m c b g i
-    ∙ ap (λ (l : Bool). (a && (p && q && r && s) && m) && (c && l && b && g && i)) (sym (eq-eqb (w .length) (w .length) refl))
+    let d = flatDigits cartSizes (w .cart) in
+    let e = flatDigits banksSizes (w .banks) in
+    let m = mmc3Of (flatDigits bytes (w .regs)) (flatDigits irqSizes (w .irq)) in
+    let k = mapperOf d in
+    (λ j. cart-of (w .cart) (w .length) j && banks-of (w .banks) k j && mmc3-of (w .regs) (w .irq) (isMapper k Mmc3) j)
+    ∙ all (couldLoad (cartOf d (w .length))) (screensKept (cartOf d (w .length)) (screensOf d)) (eqb (cartWord (cartOf d (w .length)) (screensOf d)) (w .cart))
+    (fitsBanks k e) (eqb (wordOf e) (w .banks)) (partFits k Mmc3 (mmc3.fits m) (mmc3.isStart m)) (eqb (regsWord (m .regs)) (w .regs)) (eqb (irqWord m) (w .irq))
+    (eqb (w .length) (w .length)) (eq-eqb (w .length) (w .length) refl)

@@ -1,56 +1,45 @@
--- What the code tests in place of `isKept`, in six parts; `Judged` of proofs/ joins them.
-use Prim.Native.Nat.{ℕ}
-use mathlib.Core.Bool.{Bool, cond, not, _&&_, _||_}
-use mathlib.Core.List.{List}
-use lib.Dec.{eqb, ltb}
+-- What the code tests in place of `isKept`, in four parts, and packs in place of `wordsOf`; `Judged` and `Moved` of proofs/ join them.
+use Prim.Native.Nat.{ℕ, _+_, _*_, _/_, _%_}
+use mathlib.Core.Bool.{Bool, cond, not, _&&_}
+use lib.Dec.{eqb, ltb, leb}
 use Rattle.rules.specs.Rows.{bytes, digit}
 use Rattle.rules.specs.Flat.{flatDigits}
-use Rattle.common.specs.Common.{modeOf}
-use Rattle.cartridge.specs.Answers.{isMapper, mapperNumber}
-use Rattle.cartridge.specs.Load.{couldLoad}
-use Rattle.cartridge.specs.declared.Cartridge.{Cartridge}
+use Rattle.common.specs.declared.Mirroring.{Mirroring}
+use Rattle.common.specs.declared.Mode.the-variants.{Board as OnBoard}
+use Rattle.cartridge.specs.Load.{badPrg, needed}
+use Rattle.cartridge.specs.Mappers.{isMapper, mapperNumber}
+use Rattle.cartridge.specs.Steps.{oddBits}
 use Rattle.cartridge.specs.declared.MapperType.{MapperType}
-use Rattle.cartridge.specs.declared.MapperType.the-variants.{Uxrom, Cnrom, Mmc1, Mmc3}
+use Rattle.cartridge.specs.declared.MapperType.the-variants.{Nrom, Mmc1, Uxrom, Cnrom, Mmc3}
 use Rattle.uxrom.specs.Uxrom as uxrom
 use Rattle.cnrom.specs.Cnrom as cnrom
 use Rattle.mmc1.specs.Range as mmc1
 use Rattle.mmc3.specs.Range as mmc3
 use Rattle.mmc3.specs.declared.Mmc3 as mmc3-type
 use Rattle.boards.specs.Range.{turnedFit}
-use Rattle.states.specs.Words.{cartSizes, cartWord, mapperOf, mirroringOf, screensOf, banksSizes, banksWord, uxromOf, cnromOf, mmc1Of, regsWord, irqSizes, irqWord, mmc3Of}
 use Rattle.boards.specs.declared.Board.{Board}
+use Rattle.states.specs.Words.{mirroringDigit, cartSizes, mapperOf, banksSizes, banksWord, uxromOf, cnromOf, mmc1Of, regsWord, irqSizes, irqWord, mmc3Of}
 use Rattle.states.specs.declared.Words.{Words}
 
--- the cartridge of these digits as a board of this mapper
-abbrev pub cartAs : MapperType → List ℕ → ℕ → Cartridge
-cartAs k d length =
-    record {
-      mode = modeOf (digit d 2);
-      mapper = k;
-      nes2 = eqb (digit d 3) 1;
-      mirroring = mirroringOf (digit d 4);
-      prg = digit d 7;
-      chr = digit d 8;
-      length = length;
-    }
+-- the first word, in either mode: version 1, this mapper, PRG RAM, a header's mirroring; nothing above a CHR count below 256, and counts that the board takes and the image has
+unfoldable pub cartIsKept : MapperType → ℕ → ℕ → Bool
+cartIsKept k c length =
+    let d = flatDigits cartSizes c in
+    eqb (digit d 0) 1
+    && eqb (digit d 1) (mapperNumber k)
+    && eqb (digit d 6) 1
+    && ltb c 0x100000000000
+    && ltb (digit d 4) 2
+    && not (badPrg (mapperNumber k) (digit d 7))
+    && ltb (digit d 7) 256
+    && leb (needed (digit d 7) (digit d 8)) length
 
--- the cartridge is as a load could leave it, on a board with any count of PRG blocks
-unfoldable pub couldLoadIn : ℕ → ℕ → Bool
-couldLoadIn c length = couldLoad (cartAs Mmc3 (flatDigits cartSizes c) length)
-
--- no more of them than its board takes
-unfoldable pub prgFits : MapperType → ℕ → Bool
-prgFits k c = not ((eqb (mapperNumber k) 0 || eqb (mapperNumber k) 3) && ltb 2 (digit (flatDigits cartSizes c) 7))
-
--- the current mirroring is one that its board may have
-unfoldable pub screensAreKept : MapperType → ℕ → Bool
-screensAreKept k c =
-    cond (eqb (digit (flatDigits cartSizes c) 2) 0) (eqb (digit (flatDigits cartSizes c) 5) (digit (flatDigits cartSizes c) 4))
-    (turnedFit k (eqb (digit (flatDigits cartSizes c) 5) (digit (flatDigits cartSizes c) 4)) (ltb (digit (flatDigits cartSizes c) 5) 2))
-
--- the first word packed again is the same: version 1, this mapper, PRG RAM, nothing above the last digit
-unfoldable pub cartIsWhole : MapperType → ℕ → Bool
-cartIsWhole k c = eqb (cartWord (cartAs k (flatDigits cartSizes c) 0) (screensOf (flatDigits cartSizes c))) c
+-- what its mode asks of it: in house mode the header's mirroring; in board mode one that the board may have, and counts that are powers of two
+unfoldable pub modeIsKept : MapperType → ℕ → Bool
+modeIsKept k c =
+    let d = flatDigits cartSizes c in
+    cond (eqb (digit d 2) 0) (eqb (digit d 5) (digit d 4))
+    (not (oddBits OnBoard (digit d 7) (digit d 8)) && turnedFit k (eqb (digit d 5) (digit d 4)) (ltb (digit d 5) 2))
 
 -- MMC1's digits in their ranges, and packed again the same word: no digit of another board
 unfoldable pub mmc1IsKept : ℕ → Bool
@@ -58,10 +47,11 @@ mmc1IsKept b = mmc1.fits (mmc1Of (flatDigits banksSizes b)) && eqb (banksWord ux
 
 -- of the banks, those of the mapper
 unfoldable pub banksAreKept : MapperType → ℕ → Bool
-banksAreKept k b =
-    cond (isMapper k Mmc1) (mmc1IsKept b)
-    (cond (isMapper k Uxrom) (eqb (banksWord (uxromOf (flatDigits banksSizes b)) cnrom.start mmc1.unused) b)
-    (cond (isMapper k Cnrom) (eqb (banksWord uxrom.start (cnromOf (flatDigits banksSizes b)) mmc1.unused) b) (eqb b 0)))
+banksAreKept Nrom b = eqb b 0
+banksAreKept Mmc1 b = mmc1IsKept b
+banksAreKept Uxrom b = eqb (banksWord (uxromOf (flatDigits banksSizes b)) cnrom.start mmc1.unused) b
+banksAreKept Cnrom b = eqb (banksWord uxrom.start (cnromOf (flatDigits banksSizes b)) mmc1.unused) b
+banksAreKept Mmc3 b = eqb b 0
 
 -- MMC3's in their ranges, and packed again the same two words
 unfoldable pub mmc3Fits : mmc3-type.Mmc3 → ℕ → ℕ → Bool
@@ -72,14 +62,36 @@ unfoldable pub mmc3IsKept : MapperType → ℕ → ℕ → Bool
 mmc3IsKept k r q =
     cond (isMapper k Mmc3) (mmc3Fits (mmc3Of (flatDigits bytes r) (flatDigits irqSizes q)) r q) (eqb r 0 && eqb q 0x1000000)
 
--- the parts that a board has its own of
+-- all four parts
 abbrev pub fitsOn : MapperType → Words → Bool
-fitsOn k w =
-    prgFits k (w .cart) && screensAreKept k (w .cart) && cartIsWhole k (w .cart) && banksAreKept k (w .banks) && mmc3IsKept k (w .regs) (w .irq)
+fitsOn k w = cartIsKept k (w .cart) (w .length) && modeIsKept k (w .cart) && banksAreKept k (w .banks) && mmc3IsKept k (w .regs) (w .irq)
 
--- all six parts
+-- on the board that the words name
 abbrev pub inParts : Words → Bool
-inParts w = couldLoadIn (w .cart) (w .length) && fitsOn (mapperOf (flatDigits cartSizes (w .cart))) w
+inParts w = fitsOn (mapperOf (flatDigits cartSizes (w .cart))) w
+
+-- the first word with another current mirroring
+abbrev pub withScreens : ℕ → Mirroring → ℕ
+withScreens c m = c / 0x400000 * 0x400000 + mirroringDigit m * 0x100000 + c % 0x100000
+
+-- the words of a board after a write: the length and those of other boards' registers as they were
+unfoldable pub afterWrite : MapperType → Words → Board → Words
+afterWrite k w b =
+    cond (isMapper k Mmc3)
+    (record {
+      cart = withScreens (w .cart) (b .mirroring);
+      length = w .length;
+      banks = w .banks;
+      regs = regsWord (b .registers .mmc3 .regs);
+      irq = irqWord (b .registers .mmc3);
+    })
+    (record {
+      cart = withScreens (w .cart) (b .mirroring);
+      length = w .length;
+      banks = banksWord (b .registers .uxrom) (b .registers .cnrom) (b .registers .mmc1);
+      regs = w .regs;
+      irq = w .irq;
+    })
 
 -- the words of a board after a clock: all but the last as they were
 abbrev pub afterClock : Words → Board → Words

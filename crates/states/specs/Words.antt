@@ -7,12 +7,11 @@ use mir.Val.{boolByte}
 use Rattle.rules.specs.Rows.{digit, bytes}
 use Rattle.rules.specs.Flat.{flatWord, flatDigits}
 use Rattle.common.specs.Common.{modeNumber, modeOf}
-use Rattle.cartridge.specs.Answers.{mapperNumber}
-use Rattle.cartridge.specs.Load.{mapperType}
+use Rattle.common.specs.declared.Mirroring.{Mirroring}
+use Rattle.common.specs.declared.Mirroring.the-variants.{Horizontal, Vertical, SingleScreenUpper, SingleScreenLower}
+use Rattle.cartridge.specs.Mappers.{mapperNumber, mapperType}
 use Rattle.cartridge.specs.declared.Cartridge.{Cartridge}
 use Rattle.cartridge.specs.declared.MapperType.{MapperType}
-use Rattle.cartridge.specs.declared.Mirroring.{Mirroring}
-use Rattle.cartridge.specs.declared.Mirroring.the-variants.{Horizontal, Vertical, SingleScreenUpper, SingleScreenLower}
 use Rattle.uxrom.specs.declared.Uxrom.{Uxrom}
 use Rattle.cnrom.specs.declared.Cnrom.{Cnrom}
 use Rattle.mmc1.specs.declared.Mmc1.{Mmc1}
@@ -86,11 +85,11 @@ banksWord u c m = flatWord banksSizes (banksDigits u c m)
 abbrev pub uxromOf : List ℕ → Uxrom
 uxromOf d = record { bank = digit d 0 }
 
--- of CNROM
+-- what they say of CNROM
 abbrev pub cnromOf : List ℕ → Cnrom
 cnromOf d = record { bank = digit d 1 }
 
--- of MMC1
+-- what they say of MMC1
 abbrev pub mmc1Of : List ℕ → Mmc1
 mmc1Of d =
     record {

@@ -2,17 +2,18 @@
 // the layout: a digit's size stands in specs/, its place in the sums and quotients below.
 ghost use mathlib.Core.Path.{_≡_};
 ghost use mathlib.Core.List.{[], _∷_};
-ghost use Rattle.rules.specs.Rows.{bytes};
+ghost use Rattle.rules.specs.Rows.{bytes, digit};
 ghost use Rattle.rules.specs.Flat.{flatWord, flatDigits};
-ghost use Rattle.boards.specs.Range.{turnedFit};
+ghost use Rattle.common.specs.declared.Mode.the-variants.{Board as OnBoard};
+ghost use Rattle.cartridge.specs.Steps.{oddBits};
 ghost use Rattle.states.specs.Words.{mirroringOf, mirroringDigit, cartSizes, banksSizes, irqSizes, cartWord, banksWord, regsWord, irqWord, wordsOf, mapperOf, cartOf, screensOf, uxromOf, cnromOf, mmc1Of, mmc3Of, registersOf, boardIn, digitsOf};
-ghost use Rattle.states.specs.Steps.{cartAs, couldLoadIn, prgFits, screensAreKept, cartIsWhole, mmc1IsKept, banksAreKept, mmc3Fits, mmc3IsKept, afterClock};
+ghost use Rattle.states.specs.Steps.{cartIsKept, modeIsKept, mmc1IsKept, banksAreKept, mmc3Fits, mmc3IsKept, afterClock, withScreens, afterWrite};
 use boards::Board;
 use boards::Registers;
 use cartridge::Cartridge;
 use cartridge::MapperType;
-use cartridge::Mirroring;
 use cnrom::Cnrom;
+use common::Mirroring;
 use common::Mode;
 use mmc1::Mmc1;
 use mmc1::Regs;
@@ -204,6 +205,44 @@ pub fn words_of(board: Board) -> Words
     }
 }
 
+// The first word with another current mirroring.
+fn with_screens(c: u64, screens: Mirroring) -> u64
+    ensures { λ r. ⌜ r ≡ withScreens c screens ⌝ }
+{
+    c / 0x40_0000 * 0x40_0000 + (mirroring_digit(screens) as u64) * 0x10_0000 + c % 0x10_0000
+}
+
+// The words after a write, which moves the current mirroring and the registers of its own board.
+pub fn after_write(mapper: MapperType, w: Words, next: Board) -> Words
+    ensures { λ r. ⌜ r ≡ afterWrite mapper w next ⌝ }
+{
+    let screens = next.mirroring;
+    let cart = with_screens(w.cart, screens);
+    let registers = next.registers;
+    let uxrom = registers.uxrom;
+    let cnrom = registers.cnrom;
+    let mmc1 = registers.mmc1;
+    let mmc3 = registers.mmc3;
+    let regs = mmc3.regs;
+    if mapper.is(MapperType::Mmc3) {
+        Words {
+            cart,
+            length: w.length,
+            banks: w.banks,
+            regs: regs_word(regs),
+            irq: irq_word(mmc3),
+        }
+    } else {
+        Words {
+            cart,
+            length: w.length,
+            banks: banks_word(uxrom, cnrom, mmc1),
+            regs: w.regs,
+            irq: w.irq,
+        }
+    }
+}
+
 // The words after a clock, which moves nothing but the last.
 pub fn after_clock(w: Words, next: Board) -> Words
     ensures { λ r. ⌜ r ≡ afterClock w next ⌝ }
@@ -225,24 +264,18 @@ pub fn mapper_in(c: u64) -> MapperType
     MapperType::numbered((c / 0x100 % 0x100) as u8)
 }
 
-fn cart_as(mapper: MapperType, c: u64, length: u64) -> Cartridge
-    ensures { λ r. ⌜ r ≡ cartAs mapper (flatDigits cartSizes c) length ⌝ }
+pub fn cart_in(c: u64, length: u64) -> Cartridge
+    ensures { λ r. ⌜ r ≡ cartOf (flatDigits cartSizes c) length ⌝ }
 {
     Cartridge {
         mode: Mode::numbered((c / 0x1_0000 % 2) as u8),
-        mapper,
+        mapper: mapper_in(c),
         nes2: c / 0x2_0000 % 2 == 1,
         mirroring: mirroring_of(c / 0x4_0000 % 4),
         prg: (c / 0x100_0000 % 0x1000) as u16,
         chr: (c / 0x10_0000_0000 % 0x1000) as u16,
         length: length as usize,
     }
-}
-
-pub fn cart_in(c: u64, length: u64) -> Cartridge
-    ensures { λ r. ⌜ r ≡ cartOf (flatDigits cartSizes c) length ⌝ }
-{
-    cart_as(mapper_in(c), c, length)
 }
 
 // The current mirroring.
@@ -334,65 +367,58 @@ pub fn board_in(w: Words) -> Board
     }
 }
 
-// Whether the words are a board's, in six parts, each over the words that it needs: so every call has
-// them in line. All but the first are by the mapper: a read, which names it, tests no digit of another
-// board than its own.
-pub fn could_load(c: u64, length: u64) -> bool
-    ensures { λ r. ⌜ r ≡ couldLoadIn c length ⌝ }
-{
-    let cart = cart_as(MapperType::Mmc3, c, length);
-    cart.could_load()
-}
-
-pub fn prg_fits(mapper: MapperType, c: u64) -> bool
-    ensures { λ r. ⌜ r ≡ prgFits mapper c ⌝ }
+// Whether the words are a board's, in four parts by the mapper, each over the words that it needs and by
+// their digits: so every call has them in line, and a read, which names its board, tests no other's. Of
+// the first word those that ask for one value stand first: with the mapper known they are one mask.
+pub fn cart_is_kept(mapper: MapperType, c: u64, length: u64) -> bool
+    ensures { λ r. ⌜ r ≡ cartIsKept mapper c length ⌝ }
 {
     let number = mapper.number();
-    !(((number == 0) | (number == 3)) & (2 < c / 0x100_0000 % 0x1000))
+    let prg = c / 0x100_0000 % 0x1000;
+    let chr = c / 0x10_0000_0000 % 0x1000;
+    (c % 0x100 == 1)
+        & (c / 0x100 % 0x100 == (number as u64))
+        & (c / 0x40_0000 % 4 == 1)
+        & (c < 0x1000_0000_0000)
+        & (c / 0x4_0000 % 4 < 2)
+        & !((prg == 0) | (((number == 0) | (number == 3)) & (2 < prg)))
+        & (prg < 256)
+        & (16 + prg * 16384 + chr * 8192 <= length)
 }
 
-// In board mode.
-fn turned_fit(mapper: MapperType, same: bool, headers: bool) -> bool
-    ensures { λ r. ⌜ r ≡ turnedFit mapper same headers ⌝ }
+// Refusal 8, by the one bit of a power of two.
+fn counts_are_odd(c: u64) -> bool
+    ensures { λ r. ⌜ r ≡ oddBits OnBoard (digit (flatDigits cartSizes c) 7) (digit (flatDigits cartSizes c) 8) ⌝ }
 {
-    if mapper.is(MapperType::Mmc1) {
-        true
-    } else if mapper.is(MapperType::Mmc3) {
-        headers
-    } else {
-        same
-    }
+    let prg = c / 0x100_0000 % 0x1000;
+    let chr = c / 0x10_0000_0000 % 0x1000;
+    (u64::count_ones(prg) != 1) | ((chr != 0) & (u64::count_ones(chr) != 1))
 }
 
-// By the digits: two mirrorings are one where their digits are.
-pub fn screens_are_kept(mapper: MapperType, c: u64) -> bool
-    ensures { λ r. ⌜ r ≡ screensAreKept mapper c ⌝ }
+// What the mode asks of the first word. Two mirrorings are one where their digits are. The counts have a
+// branch of their own: joined with a test of the mirroring they would be counted bit by bit.
+pub fn mode_is_kept(mapper: MapperType, c: u64) -> bool
+    ensures { λ r. ⌜ r ≡ modeIsKept mapper c ⌝ }
 {
     let same = c / 0x10_0000 % 4 == c / 0x4_0000 % 4;
     if c / 0x1_0000 % 2 == 0 {
         same
+    } else if counts_are_odd(c) {
+        false
     } else {
-        turned_fit(mapper, same, c / 0x10_0000 % 4 < 2)
+        boards::turned_fit(mapper, same, c / 0x10_0000 % 4 < 2)
     }
-}
-
-pub fn cart_is_whole(mapper: MapperType, c: u64) -> bool
-    ensures { λ r. ⌜ r ≡ cartIsWhole mapper c ⌝ }
-{
-    cart_word(cart_as(mapper, c, 0), screens_in(c)) == c
 }
 
 pub fn banks_are_kept(mapper: MapperType, b: u64) -> bool
     ensures { λ r. ⌜ r ≡ banksAreKept mapper b ⌝ }
 {
-    if mapper.is(MapperType::Mmc1) {
-        mmc1_is_kept(b)
-    } else if mapper.is(MapperType::Uxrom) {
-        banks_word(uxrom_in(b), Cnrom::new(), Mmc1::unused()) == b
-    } else if mapper.is(MapperType::Cnrom) {
-        banks_word(Uxrom::new(), cnrom_in(b), Mmc1::unused()) == b
-    } else {
-        b == 0
+    match mapper {
+        MapperType::Nrom => b == 0,
+        MapperType::Mmc1 => mmc1_is_kept(b),
+        MapperType::Uxrom => banks_word(uxrom_in(b), Cnrom::new(), Mmc1::unused()) == b,
+        MapperType::Cnrom => banks_word(Uxrom::new(), cnrom_in(b), Mmc1::unused()) == b,
+        MapperType::Mmc3 => b == 0,
     }
 }
 

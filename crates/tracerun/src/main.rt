@@ -1,4 +1,5 @@
 // Plays a trace: standard input to standard output. All the work is the library's.
+use libc::STDERR_FILENO;
 use libc::STDIN_FILENO;
 use libc::STDOUT_FILENO;
 
@@ -11,5 +12,8 @@ fn main() {
     let mut text = [0u8; 16384];
     let n = io::read_full(STDIN_FILENO, &mut input);
     let count = traces::run(&input[..n], &mut prg, &mut chr, &mut text);
-    io::write_all(STDOUT_FILENO, &text[..count]);
+    // It has no status to set: what could not be written is told where it can be read.
+    if !io::write_all(STDOUT_FILENO, &text[..count]) {
+        io::write_all(STDERR_FILENO, b"tracerun: the text cannot be written\n");
+    }
 }

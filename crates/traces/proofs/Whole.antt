@@ -9,14 +9,15 @@ use lib.Dec.{eqb, leb}
 use lib.ListN.{length}
 use Rattle.rules.proofs.Bools.{and-left, and-right}
 use Rattle.common.specs.declared.Mode.{Mode}
+use Rattle.common.specs.declared.Refusal.{Refusal}
+use Rattle.common.specs.declared.Refusal.the-variants.{TraceMalformed}
 use Rattle.memory.specs.Memory.{byte}
-use Rattle.cartridge.specs.declared.Refusal.{Refusal}
-use Rattle.cartridge.specs.declared.Refusal.the-variants.{TraceMalformed}
 use Rattle.boards.specs.Start.{LoadOwes}
+use Rattle.boards.specs.Runs.{Moment}
 use Rattle.boards.specs.declared.Loaded.{Loaded}
 use Rattle.traces.specs.Format.{isTrace, headFits, eventsFit, eventCount, eventStart, imageLength, imageOf, modeOf}
 use Rattle.traces.specs.Text.{loadLine, refusedLine}
-use Rattle.traces.specs.Run.{State, state, stopped, played, loadedRun, loaded, started, traceRun, ran, RunOwes}
+use Rattle.traces.specs.Run.{held, stopped, acceptedRun, loadedRun, loaded, started, traceRun, ran, RunOwes}
 use Rattle.traces.specs.Steps.{Puts, EventsOwe}
 use Rattle.traces.proofs.Laid.{join}
 
@@ -31,11 +32,11 @@ few t e =
 
 module _ (t text : List ℕ) {r : ℕ} {prg′ chr′ text′ : List ℕ} where
   -- the load's line, then the lines of all events
-  pub whole : (s : State) {at : ℕ} {text₁ : List ℕ} {k : ℕ} → k ≡ eventCount t → k ≤ 1024
-      → Puts 25 text 0 (loadLine (s .board .cart)) at text₁ → EventsOwe t k s at text₁ r prg′ chr′ text′
-      → RunOwes (played t s) text r prg′ chr′ text′
-  unfolding played
-  whole s {k = k} e h p o =
+  pub whole : (m : Moment) {at : ℕ} {text₁ : List ℕ} {k : ℕ} → k ≡ eventCount t → k ≤ 1024
+      → Puts 25 text 0 (loadLine (m .board .cart)) at text₁ → EventsOwe t k m at text₁ r prg′ chr′ text′
+      → RunOwes (acceptedRun t m) text r prg′ chr′ text′
+  unfolding acceptedRun
+  whole m {k = k} e h p o =
       let q = join p (o .says) in
       rw (← e)
       (record {
@@ -51,13 +52,13 @@ module _ (t text : List ℕ) {r : ℕ} {prg′ chr′ text′ : List ℕ} where
   unfolding stopped
   ended why p = record { count = omega (arith, p .next); shown = p .text; prg-ram = refl; chr-ram = refl; most = omega arith }
 
-  -- from the state that the load leaves
+  -- from the moment after the load
   pub from-load : {image : List ℕ} {mode : Mode} {prg chr : List ℕ} {l : Loaded} {prg₁ chr₁ : List ℕ}
       → image ≡ imageOf t → mode ≡ modeOf t → LoadOwes image mode prg chr l prg₁ chr₁
-      → RunOwes (loadedRun (l .answer) t (state (l .board) prg₁ chr₁)) text r prg′ chr′ text′
+      → RunOwes (loadedRun (l .answer) t (held t (l .board) prg₁ chr₁)) text r prg′ chr′ text′
       → RunOwes (traceRun t prg chr) text r prg′ chr′ text′
   unfolding traceRun loaded started
-  from-load e m o w = rw (← e, ← m) (rw (o .reply, o .prg-ram, o .chr-ram) at w)
+  from-load e m o w = rw (← e, ← m) (rw (← e, o .reply, o .prg-ram, o .chr-ram) at w)
 
   pub accepted : (prg chr : List ℕ) → isTrace t ≡ true → RunOwes (traceRun t prg chr) text r prg′ chr′ text′ → RunOwes (ran t prg chr) text r prg′ chr′ text′
   unfolding ran

@@ -4,11 +4,11 @@ use mathlib.Core.Bool.{Bool, true, cond, _&&_, _||_}
 use mathlib.Core.List.{List}
 use lib.Dec.{leb, eqb}
 use lib.ListN.{length}
+use Rattle.common.specs.Common as common
 use Rattle.common.specs.declared.Mode.{Mode}
-use Rattle.common.specs.declared.Mode.the-variants.{House, Board}
 use Rattle.memory.specs.Memory.{byte, part}
-use Rattle.traces.specs.declared.Event.{Event}
-use Rattle.traces.specs.declared.Event.the-variants.{Read, Write, Clock}
+use Rattle.boards.specs.declared.Event.{Event}
+use Rattle.boards.specs.declared.Event.the-variants.{Read, Write, Clock}
 
 -- "numbers big-endian": one of 2 bytes
 abbrev pub big2 : ℕ → ℕ → ℕ
@@ -22,13 +22,9 @@ big4 a b c d = ((a * 256 + b) * 256 + c) * 256 + d
 unfoldable pub imageLength : List ℕ → ℕ
 imageLength t = big4 (byte t 1) (byte t 2) (byte t 3) (byte t 4)
 
--- "mode (0 house, 1 board)"
-unfoldable pub modeIn : ℕ → Mode
-modeIn n = cond (eqb n 0) House Board
-
--- the mode byte follows the image length
+-- "mode (0 house, 1 board)", after the image length
 unfoldable pub modeOf : List ℕ → Mode
-modeOf t = modeIn (byte t 5)
+modeOf t = common.modeOf (byte t 5)
 
 -- "image"
 unfoldable pub imageOf : List ℕ → List ℕ

@@ -4,12 +4,11 @@ use mathlib.Core.Path.{_≡_}
 use mathlib.Core.List.{List}
 use lib.ListN.{length}
 use Rattle.memory.specs.Memory.{byte}
-use Rattle.traces.specs.Format.{big2, imageOf, eventStart, eventAt}
+use Rattle.boards.specs.Runs.{Moment, said, stepped}
+use Rattle.traces.specs.Format.{big2, eventStart, eventAt}
 use Rattle.traces.specs.Text.{line, laid}
-use Rattle.traces.specs.Run.{State, state, said, moved, after, lines}
-use Rattle.traces.specs.declared.Event.{Event}
+use Rattle.traces.specs.Run.{held, after, lines}
 use Rattle.traces.specs.declared.Fields.{Fields}
-use Rattle.traces.specs.declared.Played.{Played}
 use Rattle.traces.specs.declared.Step.{Step}
 
 -- the four bytes of event i
@@ -28,18 +27,13 @@ pub record Puts (most : ℕ) (s : List ℕ) (at : ℕ) (bytes : List ℕ) (r : �
   pub text : s′ ≡ laid s at bytes
   pub room : r ≤ at + most
 
--- what a call of the board owes within a run: its answer, and the state after it
-pub record PlayOwes (image : List ℕ) (e : Event) (s : State) (r : Played) (prg′ chr′ : List ℕ) : Type 0 where
-  pub answer : r .answer ≡ said image e s
-  pub moves : state (r .board) prg′ chr′ ≡ moved image e s
+-- what an event owes: its line, and the moment after it
+pub record StepOwes (t : List ℕ) (i : ℕ) (m : Moment) (at : ℕ) (text : List ℕ) (r : Step) (prg′ chr′ text′ : List ℕ) : Type 0 where
+  pub says : Puts 15 text at (line i (said m (eventAt t i))) (r .at) text′
+  pub moves : held t (r .board) prg′ chr′ ≡ stepped m (eventAt t i)
 
--- what an event owes: its line, and the state after it
-pub record StepOwes (t : List ℕ) (i : ℕ) (s : State) (at : ℕ) (text : List ℕ) (r : Step) (prg′ chr′ text′ : List ℕ) : Type 0 where
-  pub says : Puts 15 text at (line i (said (imageOf t) (eventAt t i) s)) (r .at) text′
-  pub moves : state (r .board) prg′ chr′ ≡ moved (imageOf t) (eventAt t i) s
-
--- what the first events owe: their lines, and the state after them
-pub record EventsOwe (t : List ℕ) (k : ℕ) (s : State) (from : ℕ) (text : List ℕ) (r : ℕ) (prg′ chr′ text′ : List ℕ) : Type 0 where
-  pub says : Puts (15 * k) text from (lines t s k) r text′
-  pub prg-ram : prg′ ≡ after t s k .prg
-  pub chr-ram : chr′ ≡ after t s k .chr
+-- what the first events owe: their lines, and both RAMs after them
+pub record EventsOwe (t : List ℕ) (k : ℕ) (m : Moment) (from : ℕ) (text : List ℕ) (r : ℕ) (prg′ chr′ text′ : List ℕ) : Type 0 where
+  pub says : Puts (15 * k) text from (lines t m k) r text′
+  pub prg-ram : prg′ ≡ after t m k .lent .prg
+  pub chr-ram : chr′ ≡ after t m k .lent .chr

@@ -4,15 +4,16 @@ use mathlib.Core.Bool.{cond}
 use mathlib.Core.List.{List, [], _∷_, _++_}
 use lib.Dec.{ltb}
 use lib.ListN.{drop, set}
-use Rattle.cartridge.specs.Answers.{refusalNumber, mirroringLetter, mapperNumber}
+use Rattle.common.specs.Answers.{refusalNumber, mirroringLetter}
+use Rattle.common.specs.declared.Mirroring.{Mirroring}
+use Rattle.common.specs.declared.Refusal.{Refusal}
+use Rattle.cartridge.specs.Mappers.{mapperNumber}
 use Rattle.cartridge.specs.declared.Cartridge.{Cartridge}
-use Rattle.cartridge.specs.declared.Mirroring.{Mirroring}
-use Rattle.cartridge.specs.declared.Refusal.{Refusal}
 use Rattle.places.specs.declared.ReadAnswer as Reads
 use Rattle.boards.specs.declared.WriteAnswer as Writes
 use Rattle.boards.specs.declared.ClockAnswer as Clocks
-use Rattle.traces.specs.declared.Answer.{Answer}
-use Rattle.traces.specs.declared.Answer.the-variants.{Read, Write, Clock}
+use Rattle.boards.specs.declared.Answer.{Answer}
+use Rattle.boards.specs.declared.Answer.the-variants.{Read, Write, Clock}
 
 -- the last decimal digit of a number
 abbrev pub digit : ℕ → ℕ

@@ -4,43 +4,27 @@ ghost use mathlib.Core.Path.{_≡_};
 ghost use Prim.Native.Nat.{_+_, _≤_};
 ghost use mathlib.Core.List.{[], _∷_};
 ghost use lib.ListN.{length};
-ghost use Rattle.traces.specs.Format.{big2, big4, imageLength, modeIn, modeOf, imageOf, eventCount, eventStart, eventOf, eventAt, isEvent, fitsAt, eventsFit, headFits, isTrace};
+ghost use Rattle.traces.specs.Format.{big2, big4, imageLength, modeOf, imageOf, eventCount, eventStart, eventOf, eventAt, isEvent, fitsAt, eventsFit, headFits, isTrace};
 ghost use Rattle.traces.specs.Text.{digit, fiveDigits, leading, decimal, hexDigit, hex, refusal, readText, noticeText, writeText, clockText, letter, answerText, between, line, refusedLine, counts, loadLine};
-ghost use Rattle.traces.specs.Run.{state, played, loadedRun, traceRun, ran, RunOwes};
-ghost use Rattle.traces.specs.Steps.{fieldsAt, Room, Puts, PlayOwes, StepOwes, EventsOwe};
+ghost use Rattle.traces.specs.Run.{held, acceptedRun, loadedRun, traceRun, ran, RunOwes};
+ghost use Rattle.traces.specs.Steps.{fieldsAt, Room, Puts, StepOwes, EventsOwe};
+use boards::Answer;
 use boards::Board;
 use boards::ClockAnswer;
+use boards::Event;
 use boards::LoadAnswer;
 use boards::WriteAnswer;
 use cartridge::Cartridge;
-use cartridge::Mirroring;
-use cartridge::Refusal;
+use common::Mirroring;
 use common::Mode;
+use common::Refusal;
 use places::ReadAnswer;
-
-pub enum Event {
-    Read(u16),
-    Write(u16, u8),
-    Clock,
-}
 
 // The four bytes of an event.
 pub struct Fields {
     pub kind: u8,
     pub address: u16,
     pub value: u8,
-}
-
-pub enum Answer {
-    Read(ReadAnswer),
-    Write(WriteAnswer),
-    Clock(ClockAnswer),
-}
-
-// What an event's call gives: the next board and the answer.
-pub struct Played {
-    pub board: Board,
-    pub answer: Answer,
 }
 
 // Where a run stands after an event: the next board, and the place in the text.
@@ -74,16 +58,10 @@ fn image_length(trace: &[u8]) -> usize
     )
 }
 
-fn mode_in(n: u8) -> Mode
-    ensures { λ r. ⌜ r ≡ modeIn n ⌝ }
-{
-    if n == 0 { Mode::House } else { Mode::Board }
-}
-
 fn mode_of(trace: &[u8]) -> Mode
     ensures { λ r. ⌜ r ≡ modeOf (now (trace .entry)) ⌝ }
 {
-    mode_in(memory::byte_at(trace, 5))
+    Mode::numbered(memory::byte_at(trace, 5))
 }
 
 fn image_of(trace: &[u8]) -> &[u8]
@@ -378,38 +356,6 @@ fn put_loaded(text: &mut [u8], cart: Cartridge) -> usize
 
 // The run: the load, then each event's call and its line.
 
-fn play(board: Board, image: &[u8], prg: &mut [u8], chr: &mut [u8], event: Event) -> Played
-    ensures { λ r. ⌜ PlayOwes (now (image .entry)) event (state board (now (prg .entry)) (now (chr .entry))) r (now (prg .exit)) (now (chr .exit)) ⌝ }
-{
-    match event {
-        Event::Read(address) => {
-            let answer = board.read(image, prg, chr, address);
-            Played {
-                board,
-                answer: Answer::Read(answer),
-            }
-        }
-        Event::Write(address, value) => {
-            let written = board.write(image, prg, chr, address, value);
-            let next = written.board;
-            let answer = written.answer;
-            Played {
-                board: next,
-                answer: Answer::Write(answer),
-            }
-        }
-        Event::Clock => {
-            let clocked = board.clock();
-            let next = clocked.board;
-            let answer = clocked.answer;
-            Played {
-                board: next,
-                answer: Answer::Clock(answer),
-            }
-        }
-    }
-}
-
 fn play_event(
     board: Board,
     trace: &[u8],
@@ -420,10 +366,10 @@ fn play_event(
     at: usize,
 ) -> Step
     requires { ⌜ Room at 15 ⌝ }
-    ensures { λ r. ⌜ StepOwes (now (trace .entry)) i (state board (now (prg .entry)) (now (chr .entry))) at (now (text .entry)) r (now (prg .exit)) (now (chr .exit)) (now (text .exit)) ⌝ }
+    ensures { λ r. ⌜ StepOwes (now (trace .entry)) i (held (now (trace .entry)) board (now (prg .entry)) (now (chr .entry))) at (now (text .entry)) r (now (prg .exit)) (now (chr .exit)) (now (text .exit)) ⌝ }
 {
     let image = image_of(trace);
-    let played = play(board, image, prg, chr, event_at(trace, i));
+    let played = board.play(event_at(trace, i), image, prg, chr);
     let answer = played.answer;
     let next = played.board;
     let end = put_line(text, at, i, answer);
@@ -443,7 +389,7 @@ fn play_events(
     from: usize,
 ) -> usize
     requires { ⌜ (count ≤ 1024) × (from ≤ 25) ⌝ }
-    ensures { λ r. ⌜ EventsOwe (now (trace .entry)) count (state start (now (prg .entry)) (now (chr .entry))) from (now (text .entry)) r (now (prg .exit)) (now (chr .exit)) (now (text .exit)) ⌝ }
+    ensures { λ r. ⌜ EventsOwe (now (trace .entry)) count (held (now (trace .entry)) start (now (prg .entry)) (now (chr .entry))) from (now (text .entry)) r (now (prg .exit)) (now (chr .exit)) (now (text .exit)) ⌝ }
 {
     let mut board = start;
     let mut at = from;
@@ -458,7 +404,7 @@ fn play_events(
 
 fn play_all(board: Board, trace: &[u8], prg: &mut [u8], chr: &mut [u8], text: &mut [u8]) -> usize
     requires { ⌜ eventCount (now trace) ≤ 1024 ⌝ }
-    ensures { λ r. ⌜ RunOwes (played (now (trace .entry)) (state board (now (prg .entry)) (now (chr .entry)))) (now (text .entry)) r (now (prg .exit)) (now (chr .exit)) (now (text .exit)) ⌝ }
+    ensures { λ r. ⌜ RunOwes (acceptedRun (now (trace .entry)) (held (now (trace .entry)) board (now (prg .entry)) (now (chr .entry)))) (now (text .entry)) r (now (prg .exit)) (now (chr .exit)) (now (text .exit)) ⌝ }
 {
     let cart = board.cart;
     let count = event_count(trace);
@@ -475,7 +421,7 @@ fn run_loaded(
     text: &mut [u8],
 ) -> usize
     requires { ⌜ eventCount (now trace) ≤ 1024 ⌝ }
-    ensures { λ r. ⌜ RunOwes (loadedRun answer (now (trace .entry)) (state board (now (prg .entry)) (now (chr .entry)))) (now (text .entry)) r (now (prg .exit)) (now (chr .exit)) (now (text .exit)) ⌝ }
+    ensures { λ r. ⌜ RunOwes (loadedRun answer (now (trace .entry)) (held (now (trace .entry)) board (now (prg .entry)) (now (chr .entry)))) (now (text .entry)) r (now (prg .exit)) (now (chr .exit)) (now (text .exit)) ⌝ }
 {
     match answer {
         LoadAnswer::Accepted => play_all(board, trace, prg, chr, text),

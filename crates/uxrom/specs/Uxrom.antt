@@ -1,16 +1,13 @@
--- UxROM: where a read and a write land, and what a write leaves.
-use Prim.Native.Nat.{ℕ, _-_}
+-- UxROM: what a read and a write find at an address, and what a write leaves.
+use Prim.Native.Nat.{ℕ}
 use mathlib.Core.Bool.{Bool, cond}
 use lib.Dec.{ltb, eqb}
-use Rattle.common.specs.Common.{KB8, KB16}
 use Rattle.common.specs.declared.Mode.{Mode}
 use Rattle.common.specs.declared.Mode.the-variants.{House, Board}
 use Rattle.cartridge.specs.Load.{lastPrg}
 use Rattle.cartridge.specs.declared.Cartridge.{Cartridge}
-use Rattle.places.specs.Places.{prgPlace, chrPlace}
-use Rattle.places.specs.declared.Place.{Place}
-use Rattle.places.specs.declared.Place.the-variants.{Zero}
-use Rattle.nrom.specs.Nrom.{houseWritePlace}
+use Rattle.places.specs.Windows.{Window, houseChrRam}
+use Rattle.places.specs.Windows.Window.{Chr8K, Prg16K, Nothing}
 use Rattle.uxrom.specs.declared.Uxrom.{Uxrom}
 
 -- "Registers start at 0"
@@ -18,21 +15,20 @@ abbrev pub start : Uxrom
 start = record { bank = 0 }
 
 -- "PPU as NROM"; "8000-BFFF that bank; C000-FFFF the last"
-unfoldable pub readPlace : Uxrom → Cartridge → ℕ → Place
-readPlace u c a =
-    cond (ltb a 0x2000) (chrPlace c KB8 0 a)
-    (cond (ltb a 0x8000) Zero
-    (cond (ltb a 0xC000) (prgPlace c KB16 (u .bank) (a - 0x8000))
-    (prgPlace c KB16 (lastPrg c) (a - 0xC000))))
+unfoldable pub readWindow : Uxrom → Cartridge → ℕ → Window
+readWindow u c a =
+    cond (ltb a 0x2000) (Chr8K 0)
+    (cond (ltb a 0x8000) Nothing
+    (cond (ltb a 0xC000) (Prg16K (u .bank)) (Prg16K (lastPrg c))))
 
 -- house: "PPU as NROM"; board: "CHR RAM is read and written through the banks, on all boards"
-unfoldable pub writePlaceIn : Mode → Uxrom → Cartridge → ℕ → Place
-writePlaceIn House u c a = houseWritePlace c a
-writePlaceIn Board u c a = readPlace u c a
+unfoldable pub writeWindowIn : Mode → Uxrom → Cartridge → ℕ → Window
+writeWindowIn House u c a = houseChrRam c a
+writeWindowIn Board u c a = readWindow u c a
 
 -- in the mode that the cartridge has
-abbrev pub writePlace : Uxrom → Cartridge → ℕ → Place
-writePlace u c a = writePlaceIn (c .mode) u c a
+abbrev pub writeWindow : Uxrom → Cartridge → ℕ → Window
+writeWindow u c a = writeWindowIn (c .mode) u c a
 
 -- "Any write to 8000-FFFF sets the bank to the whole byte"
 unfoldable pub written : Uxrom → ℕ → ℕ → Uxrom

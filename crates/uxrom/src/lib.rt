@@ -1,10 +1,12 @@
 // UxROM: one 16 KB bank register. Ported from potatis nes/src/mappers/uxrom.rs.
 ghost use mathlib.Core.Path.{_≡_};
-ghost use Rattle.uxrom.specs.Uxrom.{readPlace, writePlace, written, start, isStart};
+ghost use Rattle.places.specs.Windows.{landsIn};
+ghost use Rattle.uxrom.specs.Uxrom.{readWindow, writeWindow, written, start, isStart};
 use banks::Bank8K;
 use banks::Bank16K;
 use cartridge::Cartridge;
 use common::Mode;
+use places::Landing;
 use places::Place;
 
 pub struct Uxrom {
@@ -18,28 +20,24 @@ impl Uxrom {
         Uxrom { bank: 0 }
     }
 
-    pub fn read_place(self, cart: Cartridge, address: u16) -> Place
-        ensures { λ r. ⌜ r ≡ readPlace self cart address ⌝ }
+    pub fn read_landing(self, cart: Cartridge, address: u16) -> Landing
+        ensures { λ r. ⌜ r ≡ landsIn cart (readWindow self cart address) address ⌝ }
     {
         match address {
-            0x0000..=0x1fff => places::chr_place_8k(cart, Bank8K(0), address),
-            0x8000..=0xbfff => {
-                places::prg_place_16k(cart, Bank16K(self.bank as u32), address - 0x8000)
-            }
-            0xc000..=0xffff => {
-                places::prg_place_16k(cart, Bank16K(cart.last_prg()), address - 0xc000)
-            }
-            _ => Place::Zero,
+            0x0000..=0x1fff => places::chr_8k(cart, Bank8K(0), address),
+            0x8000..=0xbfff => places::prg_16k(cart, Bank16K(self.bank as u32), address),
+            0xc000..=0xffff => places::prg_16k(cart, Bank16K(cart.last_prg()), address),
+            _ => Landing::At(Place::Nowhere),
         }
     }
 
-    pub fn write_place(self, cart: Cartridge, address: u16) -> Place
-        ensures { λ r. ⌜ r ≡ writePlace self cart address ⌝ }
+    pub fn write_landing(self, cart: Cartridge, address: u16) -> Landing
+        ensures { λ r. ⌜ r ≡ landsIn cart (writeWindow self cart address) address ⌝ }
     {
         let mode = cart.mode;
         match mode {
-            Mode::House => nrom::house_write_place(cart, address),
-            Mode::Board => self.read_place(cart, address),
+            Mode::House => places::house_chr_ram(cart, address),
+            Mode::Board => self.read_landing(cart, address),
         }
     }
 

@@ -9,5 +9,5 @@ unfolding verdict
 judge-spec =
     tie.close
     (tie.spec
-    (λ c κs. search picks) (λ c κs. search picks) (λ c κs. search picks)
-    (λ c. simp (c .verdict-on .ensures, c .before .is-ines .ensures, c .before .before .read-header .ensures)))
+    (λ c κs. search picks) (λ c κs. search picks) (λ c κs. search picks) (λ c κs. search picks)
+    (λ c. simp (c .verdict-on .ensures, c .before .rams-fit .ensures, c .before .before .is-ines .ensures, c .before .before .before .read-header .ensures)))

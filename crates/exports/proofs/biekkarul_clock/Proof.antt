@@ -2,10 +2,10 @@
 use mathlib.Core.Path.{ap, _∙_}
 use mathlib.Core.Bool.{_&&_}
 use Rattle.states.specs.Kept.{isKept}
-use Rattle.states.specs.Steps.{couldLoadIn, fitsOn}
+use Rattle.states.specs.Steps.{fitsOn}
 use Rattle.states.proofs.Judged.{in-parts}
 use Rattle.exports.specs.Bytes.{wordsIn}
-use Rattle.exports.proofs.Clocks.{clock-kept}
+use Rattle.exports.proofs.Keeps.{clock-kept}
 use Rattle.rules.proofs.Picks.{picks}
 use Rattle.exports.proofs.biekkarul_clock.Statement.{statement}
 use Rattle.exports.proofs.biekkarul_clock.Tie as tie
@@ -14,26 +14,20 @@ pub biekkarul-clock-spec : {M : Type 1} → statement M
 biekkarul-clock-spec =
     tie.close
     (tie.spec
-    (λ c κs. search picks) (λ c κs. search picks)
     (λ c κs. search picks) (λ c κs. search picks) (λ c κs. search picks) (λ c κs. search picks) (λ c κs. search picks)
     (λ c κs. search picks) (λ c κs. search picks) (λ c κs. search picks) (λ c κs. search picks) (λ c κs. search picks)
     (λ c κs. search picks) (λ c. search picks)
     (λ c.
     let d = c .before .before .before .before .before .before .before .before in
-    let w = d .before .before .before .before .before .before .before .before .words-in .ensures in
-    let v = d .before .before .before .before .before .before .before .before .words-in .result in
+    let w = d .before .before .before .before .before .before .words-in .ensures in
+    let v = d .before .before .before .before .before .before .words-in .result in
     let k =
-    (λ i. d .before .before .before .before .before .could-load .ensures i
-    && (d .before .before .before .before .prg-fits .ensures i
-    && d .before .before .before .screens-are-kept .ensures i
-    && d .before .before .cart-is-whole .ensures i
-    && d .before .banks-are-kept .ensures i
-    && d .mmc3-is-kept .ensures i))
-    ∙ ap (λ x. couldLoadIn (v .cart) (v .length) && fitsOn x v) (d .before .before .before .before .before .before .mapper-in .ensures)
+    (λ i. d .before .before .before .cart-is-kept .ensures i && d .before .before .mode-is-kept .ensures i && d .before .banks-are-kept .ensures i && d .mmc3-is-kept .ensures i)
+    ∙ ap (λ x. fitsOn x v) (d .before .before .before .before .mapper-in .ensures)
     ∙ in-parts v ∙ ap isKept w in
     let t = c .before .before .before .before .before .before .before .clock-if .ensures in
-    let b = d .before .before .before .before .before .before .before .board-in .ensures in
+    let b = d .before .before .before .before .before .board-in .ensures in
     record {
       reply = simp (c .before .before .before .before .before .before .clock-number .ensures, t, k, b, w);
-      state = simp (c .before .before .keep .ensures, c .before .before .before .after-clock .ensures, c .before .before .before .before .before .before .clock-number .ensures, t, k, b, w) (clock-kept (d .before .before .before .before .before .before .before .before .before .before .before .args .state .now) (wordsIn (d .before .before .before .before .before .before .before .before .before .before .before .args .state .now)));
+      state = simp (c .before .before .keep .ensures, c .before .before .before .after-clock .ensures, c .before .before .before .before .before .before .clock-number .ensures, t, k, b, w) (clock-kept (d .before .before .before .before .before .before .before .before .before .args .state .now) (wordsIn (d .before .before .before .before .before .before .before .before .before .args .state .now)));
     }))

@@ -2,7 +2,7 @@
 use mathlib.Core.Path.{ap, sym, _∙_}
 use mathlib.Core.Bool.{_&&_}
 use Rattle.states.specs.Kept.{isKept}
-use Rattle.states.specs.Steps.{couldLoadIn, fitsOn}
+use Rattle.states.specs.Steps.{fitsOn}
 use Rattle.states.proofs.Judged.{in-parts}
 use lib.Dec.{eqb}
 use lib.ListN.{length}
@@ -18,25 +18,19 @@ unfolding copied
 biekkarul-digits-spec =
     tie.close
     (tie.spec
-    (λ c κs. search picks) (λ c κs. search picks)
     (λ c κs. search picks) (λ c κs. search picks) (λ c κs. search picks) (λ c κs. search picks) (λ c κs. search picks)
     (λ c κs. search picks) (λ c κs. search picks) (λ c. search picks) (λ c κs. search picks) (λ c κs. search picks)
     (λ c. search picks)
     (λ c.
     let d = c .before .before .before .before .before .before .before in
-    let w = d .before .before .before .before .before .before .before .words-in .ensures in
-    let v = d .before .before .before .before .before .before .before .words-in .result in
+    let w = d .before .before .before .before .before .words-in .ensures in
+    let v = d .before .before .before .before .before .words-in .result in
     let k =
-    (λ i. d .before .before .before .before .before .could-load .ensures i
-    && (d .before .before .before .before .prg-fits .ensures i
-    && d .before .before .before .screens-are-kept .ensures i
-    && d .before .before .cart-is-whole .ensures i
-    && d .before .banks-are-kept .ensures i
-    && d .mmc3-is-kept .ensures i))
-    ∙ ap (λ x. couldLoadIn (v .cart) (v .length) && fitsOn x v) (d .before .before .before .before .before .before .mapper-in .ensures)
+    (λ i. d .before .before .before .cart-is-kept .ensures i && d .before .before .mode-is-kept .ensures i && d .before .banks-are-kept .ensures i && d .mmc3-is-kept .ensures i)
+    ∙ ap (λ x. fitsOn x v) (d .before .before .before .before .mapper-in .ensures)
     ∙ in-parts v ∙ ap isKept w in
-    let s = d .before .before .before .before .before .before .before .before .before .before .args .state .now in
-    let x = eqb (length (d .before .before .before .before .before .before .before .before .before .before .args .digits .now)) 40 in
+    let s = d .before .before .before .before .before .before .before .before .args .state .now in
+    let x = eqb (length (d .before .before .before .before .before .before .before .before .args .digits .now)) 40 in
     let e = ap (λ y. y && x) (sym k) ∙ c .before .before .before .before .before .before .if1 .taken in
     let l = and-left (isKept (wordsIn s)) x e in
     let n = and-right (isKept (wordsIn s)) x e in
@@ -46,16 +40,13 @@ biekkarul-digits-spec =
     })
     (λ c.
     let d = c .before .before in
-    let w = d .before .before .before .before .before .before .before .words-in .ensures in
-    let v = d .before .before .before .before .before .before .before .words-in .result in
+    let w = d .before .before .before .before .before .words-in .ensures in
+    let v = d .before .before .before .before .before .words-in .result in
     let k =
-    (λ i. d .before .before .before .before .before .could-load .ensures i
-    && (d .before .before .before .before .prg-fits .ensures i
-    && d .before .before .before .screens-are-kept .ensures i
-    && d .before .before .cart-is-whole .ensures i && c .before .before .before .banks-are-kept .ensures i && c .before .before .mmc3-is-kept .ensures i))
-    ∙ ap (λ x. couldLoadIn (v .cart) (v .length) && fitsOn x v) (d .before .before .before .before .before .before .mapper-in .ensures)
+    (λ i. d .before .before .before .cart-is-kept .ensures i && d .before .before .mode-is-kept .ensures i && d .before .banks-are-kept .ensures i && d .mmc3-is-kept .ensures i)
+    ∙ ap (λ x. fitsOn x v) (d .before .before .before .before .mapper-in .ensures)
     ∙ in-parts v ∙ ap isKept w in
-    let x = eqb (length (d .before .before .before .before .before .before .before .before .before .before .args .digits .now)) 40 in
+    let x = eqb (length (d .before .before .before .before .before .before .before .before .args .digits .now)) 40 in
     let e = ap (λ y. y && x) (sym k) ∙ c .before .if1 .left in
     record {
       reply = simp (e, c .refusal .ensures);

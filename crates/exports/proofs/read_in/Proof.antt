@@ -1,8 +1,6 @@
--- The board by its number, where a load could leave it. Assumes nothing.
-use mathlib.Core.Path.{sym, ap, _∙_}
-use mathlib.Core.Bool.{_&&_}
-use lib.Dec.{eqb}
-use lib.ListN.{length}
+-- The board by its number, where the image is the one loaded. Assumes nothing.
+use mathlib.Core.Path.{sym, _∙_}
+use borrow.Author.Tests.{eq-eqb, ne-eqb}
 use Rattle.rules.proofs.Picks.{picks}
 use Rattle.exports.specs.Steps.{readIn}
 use Rattle.exports.proofs.read_in.Statement.{statement}
@@ -13,29 +11,12 @@ unfolding readIn
 read-in-spec =
     tie.close
     (tie.spec
-    (λ c κs. search picks) (λ c κs. search picks) (λ c. search picks) (λ c κs. search picks) (λ c. search picks)
+    (λ c κs. search picks) (λ c. search picks) (λ c κs. search picks) (λ c. search picks)
     (λ c κs. search picks) (λ c. search picks) (λ c κs. search picks) (λ c. search picks) (λ c κs. search picks)
     (λ c. search picks) (λ c κs. search picks) (λ c κs. search picks)
-    (λ c.
-    let e = ap (λ x. x && eqb (length (c .before .before .before .before .before .before .before .before .before .before .args .image .now)) (c .before .before .before .before .before .before .before .before .before .before .args .w .length)) (sym (c .before .before .before .before .before .could-load .ensures)) ∙ c .before .before .before .if1 .taken in
-    let m = sym (c .before .before .before .before .before .before .mapper-in .ensures) ∙ c .before .enum-told .given .1 in
-    simp (e, m, c .nrom-read .ensures))
-    (λ c.
-    let e = ap (λ x. x && eqb (length (c .before .before .before .before .before .before .before .before .before .before .args .image .now)) (c .before .before .before .before .before .before .before .before .before .before .args .w .length)) (sym (c .before .before .before .before .before .could-load .ensures)) ∙ c .before .before .before .if1 .taken in
-    let m = sym (c .before .before .before .before .before .before .mapper-in .ensures) ∙ c .before .enum-told2 .given .1 in
-    simp (e, m, c .mmc1-read .ensures))
-    (λ c.
-    let e = ap (λ x. x && eqb (length (c .before .before .before .before .before .before .before .before .before .before .args .image .now)) (c .before .before .before .before .before .before .before .before .before .before .args .w .length)) (sym (c .before .before .before .before .before .could-load .ensures)) ∙ c .before .before .before .if1 .taken in
-    let m = sym (c .before .before .before .before .before .before .mapper-in .ensures) ∙ c .before .enum-told3 .given .1 in
-    simp (e, m, c .uxrom-read .ensures))
-    (λ c.
-    let e = ap (λ x. x && eqb (length (c .before .before .before .before .before .before .before .before .before .before .args .image .now)) (c .before .before .before .before .before .before .before .before .before .before .args .w .length)) (sym (c .before .before .before .before .before .could-load .ensures)) ∙ c .before .before .before .if1 .taken in
-    let m = sym (c .before .before .before .before .before .before .mapper-in .ensures) ∙ c .before .enum-told4 .given .1 in
-    simp (e, m, c .cnrom-read .ensures))
-    (λ c.
-    let e = ap (λ x. x && eqb (length (c .before .before .before .before .before .before .before .before .before .before .args .image .now)) (c .before .before .before .before .before .before .before .before .before .before .args .w .length)) (sym (c .before .before .before .before .before .could-load .ensures)) ∙ c .before .before .before .if1 .taken in
-    let m = sym (c .before .before .before .before .before .before .mapper-in .ensures) ∙ c .before .enum-told5 .given .1 in
-    simp (e, m, c .mmc3-read .ensures))
-    (λ c.
-    let e = ap (λ x. x && eqb (length (c .before .before .before .before .before .before .before .before .args .image .now)) (c .before .before .before .before .before .before .before .before .args .w .length)) (sym (c .before .before .before .could-load .ensures)) ∙ c .before .if1 .left in
-    simp (e, c .refusal .ensures)))
+    (λ c. simp (eq-eqb _ _ (c .before .before .before .if1 .taken), sym (c .before .before .before .before .before .mapper-in .ensures) ∙ c .before .enum-told .given .1, c .nrom-read .ensures))
+    (λ c. simp (eq-eqb _ _ (c .before .before .before .if1 .taken), sym (c .before .before .before .before .before .mapper-in .ensures) ∙ c .before .enum-told2 .given .1, c .mmc1-read .ensures))
+    (λ c. simp (eq-eqb _ _ (c .before .before .before .if1 .taken), sym (c .before .before .before .before .before .mapper-in .ensures) ∙ c .before .enum-told3 .given .1, c .uxrom-read .ensures))
+    (λ c. simp (eq-eqb _ _ (c .before .before .before .if1 .taken), sym (c .before .before .before .before .before .mapper-in .ensures) ∙ c .before .enum-told4 .given .1, c .cnrom-read .ensures))
+    (λ c. simp (eq-eqb _ _ (c .before .before .before .if1 .taken), sym (c .before .before .before .before .before .mapper-in .ensures) ∙ c .before .enum-told5 .given .1, c .mmc3-read .ensures))
+    (λ c. simp (ne-eqb _ _ (c .before .if1 .left), c .refusal .ensures)))

@@ -11,10 +11,9 @@ byte-of-spec =
     (tie.spec
     (λ c. search picks) (λ c κs. search picks) (λ c κs. search picks) (λ c. search picks) (λ c κs. search picks)
     (λ c κs. search picks) (λ c. search picks) (λ c κs. search picks) (λ c. search picks) (λ c κs. search picks)
-    (λ c. search picks) (λ c. search picks)
+    (λ c. search picks)
     (λ c. simp (c .before .before .before .place .given .1, c .byte-at .ensures, c .before .prg-rom .ensures))
     (λ c. simp (c .before .before .before .place2 .given .1, c .byte-at2 .ensures, c .before .chr-rom .ensures))
     (λ c. simp (c .before .before .place3 .given .1, c .byte-at3 .ensures))
     (λ c. simp (c .before .before .place4 .given .1, c .byte-at4 .ensures))
-    (λ c. simp (c .enum-told .given .1))
-    (λ c. simp (c .enum-told2 .given .1)))
+    (λ c. simp (c .enum-told .given .1)))

@@ -6,7 +6,4 @@ use Rattle.states.proofs.board_in.Tie as tie
 
 pub board-in-spec : {M : Type 1} → statement M
 unfolding boardIn
-board-in-spec =
-    tie.close
-    (tie.spec
-    (λ c κs. search picks) (λ c κs. search picks) (λ c κs. search picks) (λ c. cc))
+board-in-spec = tie.close (tie.spec (λ c κs. search picks) (λ c κs. search picks) (λ c κs. search picks) (λ c. cc))

@@ -6,7 +6,4 @@ use Rattle.states.proofs.mirroring_of.Tie as tie
 
 pub mirroring-of-spec : {M : Type 1} → statement M
 unfolding mirroringOf
-mirroring-of-spec =
-    tie.close
-    (tie.spec
-    (λ c. search picks) (λ c. search picks) (λ c. search picks) (λ c. search picks))
+mirroring-of-spec = tie.close (tie.spec (λ c. search picks) (λ c. search picks) (λ c. search picks) (λ c. search picks))

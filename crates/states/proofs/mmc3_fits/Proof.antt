@@ -7,7 +7,5 @@ use Rattle.states.proofs.mmc3_fits.Tie as tie
 pub mmc3-fits-spec : {M : Type 1} → statement M
 unfolding mmc3Fits
 mmc3-fits-spec =
-    tie.close
-    (tie.spec
-    (λ c κs. search picks) (λ c κs. search picks) (λ c κs. search picks)
+    tie.close (tie.spec (λ c κs. search picks) (λ c κs. search picks) (λ c κs. search picks)
     (λ c. simp (c .irq-word .ensures, c .before .regs-word .ensures, c .before .before .fits2 .ensures)))

@@ -1,6 +1,6 @@
 -- The load's line, then those of the events. Assumes nothing.
 use Rattle.rules.proofs.Picks.{picks}
-use Rattle.traces.specs.Run.{state}
+use Rattle.traces.specs.Run.{held}
 use Rattle.traces.proofs.Whole.{whole}
 use Rattle.traces.proofs.play_all.Statement.{statement}
 use Rattle.traces.proofs.play_all.Tie as tie
@@ -11,4 +11,4 @@ play-all-spec =
     (tie.spec
     (λ c κs. search picks) (λ c κs. search picks) (λ c κs. search picks) (λ c. search picks) (λ c. search picks)
     (λ c. search picks)
-    (λ c. let a = c .before .before .before .before .before .before .before .before .before .before .before .before .before .before .before .before .before .before .before .before .args in whole (a .trace .now) (a .text .now) (state (a .board) (a .prg .now) (a .chr .now)) (c .before .before .before .before .before .before .before .before .before .before .before .before .before .before .event-count .ensures) (search picks) (c .before .before .before .before .before .before .before .before .before .before .before .before .put-loaded .ensures) (c .before .before .before .before .before .before .play-events .ensures)))
+    (λ c. let a = c .before .before .before .before .before .before .before .before .before .before .before .before .before .before .before .before .before .before .before .before .args in whole (a .trace .now) (a .text .now) (held (a .trace .now) (a .board) (a .prg .now) (a .chr .now)) (c .before .before .before .before .before .before .before .before .before .before .before .before .before .before .event-count .ensures) (search picks) (c .before .before .before .before .before .before .before .before .before .before .before .before .put-loaded .ensures) (c .before .before .before .before .before .before .play-events .ensures)))

@@ -10,6 +10,6 @@ unfolding ticked
 ticked-spec =
     tie.close
     (tie.spec
-    (λ c κs. search picks) (λ c κs. search picks) (λ c κs. search picks)
-    (λ c. simp (c .with-mmc3 .ensures, c .before .clock .ensures, sym (c .before .before .before .is .ensures) ∙ c .before .before .if1 .taken))
+    (λ c κs. search picks) (λ c κs. search picks)
+    (λ c. simp (c .before .clock .ensures, sym (c .before .before .before .is .ensures) ∙ c .before .before .if1 .taken))
     (λ c. simp (sym (c .before .is .ensures) ∙ c .if1 .left)))

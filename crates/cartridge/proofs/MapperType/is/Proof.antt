@@ -1,6 +1,6 @@
 -- The definition composes what the callees promise. Assumes nothing.
 use Rattle.rules.proofs.Picks.{picks}
-use Rattle.cartridge.specs.Answers.{isMapper}
+use Rattle.cartridge.specs.Mappers.{isMapper}
 use Rattle.cartridge.proofs.MapperType.is.Statement.{statement}
 use Rattle.cartridge.proofs.MapperType.is.Tie as tie
 

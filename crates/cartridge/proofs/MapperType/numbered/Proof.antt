@@ -1,6 +1,6 @@
 -- The branches decide the tests of the definition. Assumes nothing.
 use Rattle.rules.proofs.Picks.{picks}
-use Rattle.cartridge.specs.Load.{mapperType}
+use Rattle.cartridge.specs.Mappers.{mapperType}
 use Rattle.cartridge.proofs.MapperType.numbered.Statement.{statement}
 use Rattle.cartridge.proofs.MapperType.numbered.Tie as tie
 

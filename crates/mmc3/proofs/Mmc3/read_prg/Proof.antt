@@ -1,13 +1,10 @@
 -- The definition composes what the callees promise. Assumes nothing.
 use Rattle.rules.proofs.Picks.{picks}
-use Rattle.mmc3.specs.Read.{prgAt}
 use Rattle.mmc3.proofs.Mmc3.read_prg.Statement.{statement}
 use Rattle.mmc3.proofs.Mmc3.read_prg.Tie as tie
 
 pub read-prg-spec : {M : Type 1} → statement M
-unfolding prgAt
 read-prg-spec =
     tie.close
     (tie.spec
-    (λ c κs. search picks) (λ c κs. search picks)
-    (λ c. simp (c .prg-place-8k .ensures, c .before .prg-bank .ensures)))
+    (λ c κs. search picks) (λ c κs. search picks) (λ c. cc))

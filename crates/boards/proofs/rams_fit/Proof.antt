@@ -1,9 +1,0 @@
--- The same expression, written as the definition. Assumes nothing.
-use Rattle.rules.proofs.Picks.{picks}
-use Rattle.boards.specs.Range.{ramsFit}
-use Rattle.boards.proofs.rams_fit.Statement.{statement}
-use Rattle.boards.proofs.rams_fit.Tie as tie
-
-pub rams-fit-spec : {M : Type 1} → statement M
-unfolding ramsFit
-rams-fit-spec = tie.close (tie.spec (λ c. search picks))

@@ -1,9 +1,0 @@
--- Each window of the address decides the tests of the definition. Assumes nothing.
-use Rattle.rules.proofs.Picks.{picks}
-use Rattle.cnrom.specs.Cnrom.{houseWritePlace}
-use Rattle.cnrom.proofs.house_write_place.Statement.{statement}
-use Rattle.cnrom.proofs.house_write_place.Tie as tie
-
-pub house-write-place-spec : {M : Type 1} → statement M
-unfolding houseWritePlace
-house-write-place-spec = tie.close (tie.spec (λ c. search picks) (λ c. search picks) (λ c. search picks))

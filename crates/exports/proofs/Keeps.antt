@@ -1,0 +1,65 @@
+-- What is kept of a clock or a write is its board's words, though not all are packed anew. Assumes nothing.
+use mathlib.Core.Path.{_≡_, refl, ap}
+use mathlib.Core.Bool.{Bool, true, false, cond}
+use mathlib.Core.List.{List}
+use native.Mathlib.Omega.{arith}
+use borrow.Author.Tests.{le-ltb}
+use lib.ListN.{length}
+use Prim.Native.Nat.{ℕ, _+_}
+use Rattle.rules.specs.Flat.{flatDigits}
+use Rattle.rules.proofs.Bools.{either}
+use Rattle.common.specs.Answers.{refusalNumber}
+use Rattle.common.specs.declared.Refusal.{Refusal}
+use Rattle.common.specs.declared.Refusal.the-variants.{RamNot8K, StateOutOfRange}
+use Rattle.cartridge.specs.Load.{ramsFit}
+use Rattle.places.specs.declared.Landing.{Landing}
+use Rattle.places.specs.declared.Landing.the-variants.{At, Refused}
+use Rattle.boards.specs.Range.{guarded}
+use Rattle.boards.specs.Write.{writeLanding, acceptedWrite, writtenAs, landingIf}
+use Rattle.boards.specs.Clock.{clockIf}
+use Rattle.boards.specs.declared.Written.{Written}
+use Rattle.states.specs.Words.{cartSizes, mapperOf, wordsOf, boardIn}
+use Rattle.states.specs.Kept.{isKept}
+use Rattle.states.specs.Steps.{afterWrite, afterClock}
+use Rattle.states.specs.declared.Words.{Words}
+use Rattle.states.proofs.Moved.{after-write, after-clock}
+use Rattle.exports.specs.Bytes.{kept}
+use Rattle.exports.specs.Numbers.{refused, clockNumber, writeNumber}
+
+module _ (s : List ℕ) (w : Words) where
+  abbrev keptAs : Bool → Words → List ℕ
+  keptAs t v = kept s (clockNumber (clockIf t (boardIn w) .answer)) v
+
+  pub clock-kept : keptAs (isKept w) (afterClock w (clockIf (isKept w) (boardIn w) .board)) ≡ keptAs (isKept w) (wordsOf (clockIf (isKept w) (boardIn w) .board))
+  unfolding kept clockNumber refused
+  clock-kept = go (isKept w) refl
+    where
+      go : (t : Bool) → isKept w ≡ t → keptAs t (afterClock w (clockIf t (boardIn w) .board)) ≡ keptAs t (wordsOf (clockIf t (boardIn w) .board))
+      go true e = ap (keptAs true) (after-clock w e)
+      go false e = refl
+
+  -- after a write that lands there
+  abbrev Kept : Written → Type 0
+  Kept x = kept s (writeNumber (x .answer)) (afterWrite (mapperOf (flatDigits cartSizes (w .cart))) w (x .board)) ≡ kept s (writeNumber (x .answer)) (wordsOf (x .board))
+
+  module _ (v a : ℕ) where
+    refused-at : (why : Refusal) → Kept (writtenAs (boardIn w) (Refused why) v a)
+    unfolding kept refused writeNumber writtenAs
+    refused-at why = rw (le-ltb (256 + refusalNumber why) 256 (omega arith)) refl
+
+    accepted : isKept w ≡ true → Kept (acceptedWrite (boardIn w) v a)
+    accepted h = ap (kept s (writeNumber (acceptedWrite (boardIn w) v a .answer))) (after-write w h v a)
+
+    where-it-lands : isKept w ≡ true → (p : Landing) → Kept (writtenAs (boardIn w) p v a)
+    unfolding writtenAs
+    where-it-lands h (Refused why) = refused-at why
+    where-it-lands h (At p) = accepted h
+
+    judged : (t : Bool) → (t ≡ true → isKept w ≡ true) → (p : Landing) → Kept (writtenAs (boardIn w) (cond t p (Refused StateOutOfRange)) v a)
+    judged true h p = where-it-lands (h refl) p
+    judged false h p = refused-at StateOutOfRange
+
+    pub write-kept : (t : Bool) → (t ≡ true → isKept w ≡ true) → (prg chr : List ℕ) → Kept (writtenAs (boardIn w) (landingIf t (boardIn w) prg chr a) v a)
+    unfolding guarded
+    write-kept t h prg chr =
+        either (λ (p : Landing). Kept (writtenAs (boardIn w) p v a)) (ramsFit (length prg) (length chr)) (judged t h (writeLanding (boardIn w) a)) (refused-at RamNot8K)

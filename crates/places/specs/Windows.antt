@@ -1,0 +1,57 @@
+-- What a board shows at an address, the windows that boards share, and where an address lands in one.
+use Prim.Native.Nat.{ℕ, _%_}
+use mathlib.Core.Bool.{cond}
+use lib.Dec.{ltb, eqb}
+use Rattle.common.specs.Common.{KB1, KB4, KB8, KB16}
+use Rattle.common.specs.declared.Refusal.{Refusal}
+use Rattle.common.specs.declared.Refusal.the-variants.{NoChrRam}
+use Rattle.cartridge.specs.Load.{hasChrRam}
+use Rattle.cartridge.specs.declared.Cartridge.{Cartridge}
+use Rattle.places.specs.Places.{inPrg, inChr}
+use Rattle.places.specs.declared.Landing.{Landing}
+use Rattle.places.specs.declared.Landing.the-variants.{At, Refused as NotLanded}
+use Rattle.places.specs.declared.Place.the-variants.{PrgRam as InPrgRam, ChrRam as InChrRam, Nowhere}
+
+-- a bank by its number, counted in banks of its size; a RAM; nothing; or a refusal
+pub data Window : Type 0 where
+  Prg16K : ℕ → Window
+  Prg8K : ℕ → Window
+  Chr8K : ℕ → Window
+  Chr4K : ℕ → Window
+  Chr1K : ℕ → Window
+  PrgRam : Window
+  ChrRam : Window
+  Nothing : Window
+  Refused : Refusal → Window
+
+-- where an address lands in a window: every window lies on a multiple of its size
+unfoldable pub landsIn : Cartridge → Window → ℕ → Landing
+landsIn c (Prg16K n) a = inPrg c KB16 n (a % KB16)
+landsIn c (Prg8K n) a = inPrg c KB8 n (a % KB8)
+landsIn c (Chr8K n) a = inChr c KB8 n (a % KB8)
+landsIn c (Chr4K n) a = inChr c KB4 n (a % KB4)
+landsIn c (Chr1K n) a = inChr c KB1 n (a % KB1)
+landsIn c PrgRam a = At (InPrgRam (a % KB8))
+landsIn c ChrRam a = At (InChrRam (a % KB8))
+landsIn c Nothing a = At Nowhere
+landsIn c (Refused why) a = NotLanded why
+
+-- "8000-BFFF first PRG block; C000-FFFF second, or first again if only one"
+unfoldable pub fixedBlock : Cartridge → ℕ → ℕ
+fixedBlock c a = cond (ltb a 0xC000) 0 (cond (eqb (c .prg) 1) 0 1)
+
+-- NROM's and CNROM's PRG, which no write moves; "Not mentioned: a read answers 0, a write does nothing"
+unfoldable pub fixedPrg : Cartridge → ℕ → Window
+fixedPrg c a = cond (ltb a 0x8000) Nothing (Prg16K (fixedBlock c a))
+
+-- house, PPU "writes CHR RAM", "unbanked"; refusal 12: "NROM, MMC1, UxROM at 0000-1FFF with no CHR RAM"
+unfoldable pub houseChr : Cartridge → Window
+houseChr c = cond (hasChrRam c) ChrRam (Refused NoChrRam)
+
+-- the writes of house NROM, and of house UxROM: "PPU as NROM"
+unfoldable pub houseChrRam : Cartridge → ℕ → Window
+houseChrRam c a = cond (ltb a 0x2000) (houseChr c) Nothing
+
+-- MMC1 and MMC3: "PPU" means 0000-1FFF; "6000-7FFF PRG RAM"; 8000-FFFF is ROM; "Not mentioned: a read answers 0, a write does nothing"
+unfoldable pub inWindows : Window → Window → ℕ → Window
+inWindows ppu rom a = cond (ltb a 0x2000) ppu (cond (ltb a 0x6000) Nothing (cond (ltb a 0x8000) PrgRam rom))
