@@ -1,5 +1,5 @@
 /*
- * Proved NES cartridge boards: the functions of the static library libbiekkarul.a (x86-64 Linux).
+ * Proved NES cartridge boards: the functions of the static library libbiekkarul.a (Linux on x86-64 or Arm).
  * docs/ABI.md has the layout of the state and the rules in full. For C99, C11 and C++.
  *
  * Every lent buffer is a pointer and a length. A pointer is not null, also where the length is 0, and is

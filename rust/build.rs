@@ -2,21 +2,20 @@
 //!
 //! 1. `BIEKKARUL_LIB` names a folder: the library in it, be it called `libbiekkarul.a` or, as `rt` calls it,
 //!    `libexports.a`. A relative name counts from the folder where cargo is started; empty is as unset.
-//! 2. `BIEKKARUL_PROVE=1`: the library is made from the repository's sources by `rt staticlib exports`, which
-//!    proves them and takes minutes. It is made again where the sources, the toolchain or the library have other
-//!    contents than when it was made; file times say nothing.
-//! 3. Otherwise the one that the repository keeps in `lib/`. The gate makes it anew and compares.
+//! 2. `BIEKKARUL_PROVE=1`: the library is made from the repository's sources by `lib/make.sh`, which proves them
+//!    and takes minutes. It is made again where the sources, the toolchain or the library have other contents than
+//!    when it was made; file times say nothing.
+//! 3. Otherwise the one that the repository keeps in `lib/` for this processor. The gate makes it anew and compares.
 //!
-//! In each case a library of another version, or a file that is none, is refused here with a message. Where
-//! `DOCS_RS` is set, nothing is linked: pages need no library.
+//! In each case a library of another version or for another processor, or a file that is none, is refused here with
+//! a message. Where `DOCS_RS` is set, nothing is linked: pages need no library.
 
 #[path = "build/archive.rs"]
 mod archive;
 
-use std::collections::hash_map::DefaultHasher;
+use archive::{Processor, PROCESSORS};
 use std::env;
 use std::fs::{self, OpenOptions};
-use std::hash::{Hash, Hasher};
 use std::io::{BufRead, BufReader, Read, Write};
 use std::path::{Path, PathBuf};
 use std::process::{exit, Command, Stdio};
@@ -43,10 +42,10 @@ fn link() -> Result<(), String> {
     if env::var_os("DOCS_RS").is_some() {
         return Ok(());
     }
-    check_target()?;
-    let archive = chosen()?;
+    let processor = processor()?;
+    let archive = chosen(processor)?;
     let bytes = contents(&archive)?;
-    check_version(&archive, &bytes)?;
+    check_version(&archive, &bytes, processor)?;
     let out = PathBuf::from(variable("OUT_DIR")?);
     write(&out.join(ARCHIVE), &bytes)?;
     println!("cargo:rustc-link-search=native={}", out.display());
@@ -54,20 +53,26 @@ fn link() -> Result<(), String> {
     Ok(())
 }
 
-/// The library is machine code for x86-64 Linux; elsewhere the linker's own message would be a riddle.
-fn check_target() -> Result<(), String> {
+/// The one that this build is for. The library is machine code; elsewhere the linker's own message would be a riddle.
+fn processor() -> Result<&'static Processor, String> {
     let arch = variable("CARGO_CFG_TARGET_ARCH")?;
     let os = variable("CARGO_CFG_TARGET_OS")?;
-    if arch == "x86_64" && os == "linux" {
-        return Ok(());
-    }
-    Err(format!(
-        "the library is made for x86_64 linux only; this build is for {arch} {os}"
-    ))
+    let found = PROCESSORS.iter().find(|one| one.name == arch);
+    found.filter(|_| os == "linux").ok_or_else(|| {
+        format!(
+            "the library is made for {} linux; this build is for {arch} {os}",
+            archive::names()
+        )
+    })
 }
 
-fn check_version(archive: &Path, bytes: &[u8]) -> Result<(), String> {
-    match archive::version(bytes) {
+/// The folder of a processor's library, in `lib/` and where it is made.
+fn folder_of(processor: &Processor) -> String {
+    format!("{}-linux", processor.name)
+}
+
+fn check_version(archive: &Path, bytes: &[u8], processor: &Processor) -> Result<(), String> {
+    match archive::version(bytes, processor) {
         Ok(VERSION) => Ok(()),
         Ok(other) => Err(format!(
             "'{}' is of version {other}, but this wrapper is for version {VERSION}",
@@ -77,7 +82,7 @@ fn check_version(archive: &Path, bytes: &[u8]) -> Result<(), String> {
     }
 }
 
-fn chosen() -> Result<PathBuf, String> {
+fn chosen(processor: &Processor) -> Result<PathBuf, String> {
     let named = env::var_os("BIEKKARUL_LIB").filter(|folder| !folder.is_empty());
     match (named, is_to_be_proved()?) {
         (Some(_), true) => Err(
@@ -85,8 +90,8 @@ fn chosen() -> Result<PathBuf, String> {
                 .to_string(),
         ),
         (Some(folder), false) => named_library(&full_path(folder.into())?),
-        (None, true) => proved_library(&root()?),
-        (None, false) => kept_library(&root()?),
+        (None, true) => proved_library(&root()?, processor),
+        (None, false) => kept_library(&root()?, processor),
     }
 }
 
@@ -142,8 +147,8 @@ fn run_each_time() {
 }
 
 /// A file of the repository, which cargo watches as any source.
-fn kept_library(root: &Path) -> Result<PathBuf, String> {
-    let archive = root.join("lib").join("x86_64-linux").join(ARCHIVE);
+fn kept_library(root: &Path, processor: &Processor) -> Result<PathBuf, String> {
+    let archive = root.join("lib").join(folder_of(processor)).join(ARCHIVE);
     println!("cargo:rerun-if-changed={}", archive.display());
     if archive.is_file() {
         return Ok(archive);
@@ -155,72 +160,23 @@ fn kept_library(root: &Path) -> Result<PathBuf, String> {
     ))
 }
 
-/// Made anew where the sources, the toolchain or the library's bytes are not those of the stamp.
-fn proved_library(root: &Path) -> Result<PathBuf, String> {
+/// `lib/make.sh` makes the library for every processor, and nothing where it was made of the same contents.
+fn proved_library(root: &Path, processor: &Processor) -> Result<PathBuf, String> {
     run_each_time();
-    let folder = root.join("target").join("staticlib");
-    let archive = folder.join(MADE);
-    let stamp = folder.join("wrapper.stamp");
-    let sources = digest_of_sources(root)?;
-    let fresh = fs::read(&archive).map_or(false, |library| {
-        fs::read_to_string(&stamp).ok() == Some(stamp_of(sources, &library))
-    });
-    if !fresh {
-        make(root, &archive)?;
-        write(&stamp, stamp_of(sources, &contents(&archive)?).as_bytes())?;
-    }
+    let made = root.join("target").join("staticlib");
+    let archive = made.join(folder_of(processor)).join(ARCHIVE);
+    make(root, &archive)?;
     Ok(archive)
 }
 
-/// Which library was made of what.
-fn stamp_of(sources: u64, library: &[u8]) -> String {
-    format!("{sources:016x} {:016x}\n", digest(&library))
-}
-
-/// Of the toolchain's identity and of every source: its place and its contents.
-fn digest_of_sources(root: &Path) -> Result<u64, String> {
-    let mut files = vec![root.join("crates.txt")];
-    files_below(&root.join("crates"), &mut files)?;
-    files.sort();
-    let mut hasher = DefaultHasher::new();
-    toolchain()?.hash(&mut hasher);
-    for file in files {
-        file.strip_prefix(root).unwrap_or(&file).hash(&mut hasher);
-        contents(&file)?.hash(&mut hasher);
-    }
-    Ok(hasher.finish())
-}
-
-fn files_below(folder: &Path, files: &mut Vec<PathBuf>) -> Result<(), String> {
-    let entries = fs::read_dir(folder)
-        .map_err(|error| format!("'{}' cannot be read: {error}", folder.display()))?;
-    for entry in entries.flatten() {
-        let path = entry.path();
-        if path.is_dir() {
-            files_below(&path, files)?;
-        } else {
-            files.push(path);
-        }
-    }
-    Ok(())
-}
-
-fn toolchain() -> Result<Vec<u8>, String> {
-    let said = Command::new("rt").arg("version").output();
-    said.map(|said| said.stdout).map_err(|error| {
-        format!("BIEKKARUL_PROVE=1 needs the Rattle toolchain, but rt cannot be started: {error}")
-    })
-}
-
 fn make(root: &Path, archive: &Path) -> Result<(), String> {
-    let mut run = Command::new("rt")
-        .args(["staticlib", "exports"])
+    let mut run = Command::new("bash")
+        .arg("lib/make.sh")
         .current_dir(root)
         .stdout(Stdio::piped())
         .stderr(Stdio::piped())
         .spawn()
-        .map_err(|error| format!("rt cannot be started: {error}"))?;
-    show("proving the library from its sources, which takes minutes; a line for each crate:");
+        .map_err(|error| format!("bash cannot be started: {error}"))?;
     let errors = run
         .stderr
         .take()
@@ -229,22 +185,27 @@ fn make(root: &Path, archive: &Path) -> Result<(), String> {
     said += &errors
         .and_then(|errors| errors.join().ok())
         .unwrap_or_default();
-    let status = run.wait().map_err(|error| format!("rt is lost: {error}"))?;
+    let status = run
+        .wait()
+        .map_err(|error| format!("lib/make.sh is lost: {error}"))?;
     if status.success() && archive.is_file() {
         return Ok(());
     }
     Err(format!(
-        "'rt staticlib exports' made no '{}' ({status}) and said:\n{said}",
+        "'bash lib/make.sh' made no '{}' ({status}) and said:\n{said}",
         archive.display()
     ))
 }
 
-/// All that a stream says. The lines of `rt` itself, one for each crate, are shown as they come.
+/// All that a stream says. The lines of `lib/make.sh` and of `rt`, one for each crate, are shown as they come.
 fn followed(stream: impl Read) -> String {
     let mut said = String::new();
     for line in BufReader::new(stream).split(b'\n').map_while(Result::ok) {
         let line = String::from_utf8_lossy(&line);
-        if let Some(news) = line.strip_prefix("rt: ") {
+        let news = ["library: ", "rt: "]
+            .iter()
+            .find_map(|mark| line.strip_prefix(mark));
+        if let Some(news) = news {
             show(news);
         }
         said += &line;
@@ -269,12 +230,6 @@ fn contents(file: &Path) -> Result<Vec<u8>, String> {
 fn write(file: &Path, bytes: &[u8]) -> Result<(), String> {
     fs::write(file, bytes)
         .map_err(|error| format!("'{}' cannot be written: {error}", file.display()))
-}
-
-fn digest(value: &impl Hash) -> u64 {
-    let mut hasher = DefaultHasher::new();
-    value.hash(&mut hasher);
-    hasher.finish()
 }
 
 fn variable(name: &str) -> Result<String, String> {

@@ -1,6 +1,6 @@
 #!/usr/bin/env bash
-# The gate sees what it must not pass: in a repository of its own, with stand-ins for rt and for every test, each fault put
-# there is named, and the closing lines count it.
+# The gate sees what it must not pass: in a repository of its own, with stand-ins for rt, for lib/make.sh and for every test,
+# each fault put there is named, and the closing lines count it.
 set -uo pipefail
 cd "$(dirname "${BASH_SOURCE[0]}")/.." || exit 2
 work=$(mktemp -d)
@@ -11,22 +11,24 @@ failed=0
 # A repository in which all is well.
 make_repository() {
   rm -rf "$work/repository"
-  mkdir -p "$work/repository"/{.ci,tests,crates} "$work/bin"
+  mkdir -p "$work/repository"/{.ci,tests,lib} "$work/bin"
   cp .ci/run "$work/repository/.ci"
   cp tests/need.bash "$work/repository/tests"
-  touch "$work/repository/crates.txt" "$work/repository/crates/source"
+  cp lib/modules.bash "$work/repository/lib"
+  cat >"$work/repository/lib/make.sh" <<'END'
+folder=target/staticlib/$(uname -m)-linux
+mkdir -p "$folder" && echo "made here" >"$folder/libbiekkarul.a"
+END
   local test
   for test in tests/*.sh; do
     # a stand-in passes only where it is given the library that the gate has made
-    echo '[ "$(cat "$BIEKKARUL_LIB/libexports.a")" = "made here" ] && echo looked' >"$work/repository/$test"
+    echo '[ "$(cat "$BIEKKARUL_LIB/libbiekkarul.a")" = "made here" ] && echo looked' >"$work/repository/$test"
   done
   cat >"$work/bin/rt" <<'END'
 #!/usr/bin/env bash
 case $* in
-version) echo "a stand-in" ;;
 'fmt --check') ;;
 ci) echo "5 passed, 0 failed" ;;
-'staticlib exports') mkdir -p target/staticlib && echo "made here" >target/staticlib/libexports.a ;;
 *) exit 2 ;;
 esac
 END
@@ -76,8 +78,8 @@ make_repository
 sed -i 's/^ci) .*/ci) echo "killed" ;;/' "$work/bin/rt"
 gate 1 "failed: rt ci ended without its closing line (status 0)" "$((all - 5)) passed, 1 failed"
 make_repository
-sed -i "s/^'staticlib exports') .*/'staticlib exports') exit 1 ;;/" "$work/bin/rt"
-gate 1 "failed: the library (rt staticlib exports)" "6 passed, $((${#tests[@]} + 1)) failed"
+echo 'exit 1' >"$work/repository/lib/make.sh"
+gate 1 "failed: the library (lib/make.sh)" "6 passed, $((${#tests[@]} + 1)) failed"
 
 echo "gate: $tried runs tried, $failed not as they must be"
 [ "$failed" -eq 0 ]

@@ -1,4 +1,5 @@
 # What the tests of the exported library stand on. Sourced before a test leaves the folder where it was started.
+source "$(dirname "${BASH_SOURCE[0]}")/../lib/modules.bash" || exit 2
 
 # absolute VARIABLE: a folder that it names becomes a full path; empty is as unset.
 absolute() {
@@ -48,21 +49,18 @@ library_in() {
   return 1
 }
 
-# stamp_of LIBRARY: one line that says by which toolchain, from which sources and as which bytes a library was made.
-stamp_of() {
-  local sources
-  sources=$(find crates crates.txt -type f -print0 | LC_ALL=C sort -z | xargs -0 sha256sum | sha256sum) || return
-  echo "$(rt version) ${sources%% *} $(sha256sum <"$1")"
+# The folder of the static library: the one that BIEKKARUL_LIB names, taken as it is; else the one of this processor that
+# lib/make.sh makes, unless it is there and was made from these very sources. Called from the repository's root.
+library_folder() {
+  local folder=${BIEKKARUL_LIB:-$PWD/target/staticlib/$(uname -m)-linux}
+  [ -n "${BIEKKARUL_LIB:-}" ] || bash lib/make.sh >&2 || { echo "lib/make.sh does not make the library" >&2; return 1; }
+  library_in "$folder" >/dev/null && echo "$folder"
 }
 
-# The folder of the static library: the one that BIEKKARUL_LIB names, taken as it is; else target/staticlib, where the
-# library is made unless it is there and was made from these very sources. Called from the repository's root.
-library_folder() {
-  local folder=${BIEKKARUL_LIB:-$PWD/target/staticlib}
-  local library=$folder/libexports.a stamp=$folder/tests.stamp
-  if [ -z "${BIEKKARUL_LIB:-}" ] && ! { [ -f "$library" ] && [ "$(cat "$stamp" 2>/dev/null)" = "$(stamp_of "$library")" ]; }; then
-    rt staticlib exports >&2 && stamp_of "$library" >"$stamp" ||
-      { echo "rt staticlib exports does not make the library" >&2; return 1; }
-  fi
-  library_in "$folder" >/dev/null && echo "$folder"
+# program NAME: runs target/bin/NAME, which rt has made for x86-64. On another processor it is run as rt runs it, by the
+# kit's emulator.
+program() {
+  local tools
+  [ "$(uname -m)" != x86_64 ] || { "target/bin/$1"; return; }
+  tools=$(tools) && "$tools/bin/qemu-x86_64" "$tools/lib/ld-linux-x86-64.so.2" --library-path "$tools/lib" "target/bin/$1"
 }

@@ -3,9 +3,9 @@
 # result that the check asks for, as we know it (docs/OPEN.md). Of the six ROMs 3 and 4 test the PPU's address line and its timing, which are not
 # part of a board here. Runs after `rt ci`, which leaves target/bin/tracerun.
 set -uo pipefail
+source "$(dirname "${BASH_SOURCE[0]}")/need.bash" || exit 2
 cd "$(dirname "${BASH_SOURCE[0]}")/.." || exit 2
-program=target/bin/tracerun
-[ -x "$program" ] || { echo "$program is not there: run rt check tracerun first"; exit 2; }
+[ -x target/bin/tracerun ] || { echo "target/bin/tracerun is not there: run rt check tracerun first"; exit 2; }
 dir=$(mktemp -d)
 trap 'rm -rf "$dir"' EXIT
 checks=0
@@ -21,7 +21,7 @@ play() { # the check that has been read: its events and the lines that they are 
   { bytes "01$(printf '%08X' 24592)01"; cat "$dir/image"; bytes "$(printf '%04X' "$count")$events"; } >"$dir/trace"
   checks=$((checks + 1))
   steps=$((steps + count))
-  if [ "$count" -eq 0 ] || ! diff <(printf 'load 4 H 1 1\n%s' "$lines") <("$program" <"$dir/trace") >"$dir/diff"; then
+  if [ "$count" -eq 0 ] || ! diff <(printf 'load 4 H 1 1\n%s' "$lines") <(program tracerun <"$dir/trace") >"$dir/diff"; then
     failed=$((failed + 1))
     echo "failed: $file, $name"
     head -n 6 "$dir/diff"

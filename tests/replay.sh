@@ -2,10 +2,9 @@
 # The program replay finds a recorded answer that was changed, and names its place; a file that is cut, goes on or is
 # another is found too. Runs after `rt ci`, which leaves target/bin/replay.
 set -uo pipefail
+source "$(dirname "${BASH_SOURCE[0]}")/need.bash" || exit 2
 cd "$(dirname "${BASH_SOURCE[0]}")/.." || exit 2
-
-program=target/bin/replay
-[ -x "$program" ] || { echo "$program is not there: run rt check replay first"; exit 2; }
+[ -x target/bin/replay ] || { echo "target/bin/replay is not there: run rt check replay first"; exit 2; }
 work=$(mktemp -d)
 trap 'rm -rf "$work"' EXIT
 file=$work/file
@@ -15,7 +14,7 @@ failed=0
 # says WHAT START: the program says one line, which begins with START.
 says() {
   local said
-  said=$("$program" <"$file")
+  said=$(program replay <"$file")
   tried=$((tried + 1))
   [[ $said != *$'\n'* && $said == "$2"* ]] && return
   echo "replay, $1: '$2' expected, but it says '$said'"

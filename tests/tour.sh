@@ -3,6 +3,7 @@
 # path in backticks is there, every crate that a command names is in crates.txt, every quotation stands in its file word for
 # word, and every command that it shows with an answer gives that answer. Runs after `rt ci`, which leaves target/bin/tracerun.
 set -uo pipefail
+source "$(dirname "${BASH_SOURCE[0]}")/need.bash" || exit 2
 cd "$(dirname "${BASH_SOURCE[0]}")/.." || exit 2
 tour=docs/TOUR.md
 [ -x target/bin/tracerun ] || { echo "target/bin/tracerun is not there: run rt check tracerun first"; exit 2; }
@@ -43,11 +44,13 @@ quoted() { # quoted FILE BLOCK
   whole=$(flat "$1")
   [[ $'\n'$whole$'\n' == *$'\n'"$(flat <<<"$2")"$'\n'* ]] || fail "$tour quotes $1 otherwise than it stands there"
 }
-# ---- answers: a block of the kind console, a command after '$ ' and the lines that it prints
+# ---- answers: a block of the kind console, a command after '$ ' and the lines that it prints. A program in target/bin is
+# run as this processor can.
 answered() { # answered BLOCK
   answers=$((answers + 1))
   local command=${1%%$'\n'*}
-  [ "$(bash -c "${command#\$ }")" = "${1#*$'\n'}" ] || fail "$tour shows another answer than this command gives: ${command#\$ }"
+  command=${command#\$ }
+  [ "$(eval "${command//target\/bin\//program }")" = "${1#*$'\n'}" ] || fail "$tour shows another answer than this command gives: $command"
 }
 file='' fence='' block='' before=''
 while IFS= read -r line; do

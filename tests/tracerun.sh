@@ -2,9 +2,9 @@
 # tracerun on traces of every board, and on inputs that are no trace. The expected answers are worked out by hand from
 # document 01. Runs after `rt ci`, which leaves target/bin/tracerun.
 set -uo pipefail
+source "$(dirname "${BASH_SOURCE[0]}")/need.bash" || exit 2
 cd "$(dirname "${BASH_SOURCE[0]}")/.." || exit 2
-program=target/bin/tracerun
-[ -x "$program" ] || { echo "$program is not there: run rt check tracerun first"; exit 2; }
+[ -x target/bin/tracerun ] || { echo "target/bin/tracerun is not there: run rt check tracerun first"; exit 2; }
 dir=$(mktemp -d)
 trap 'rm -rf "$dir"' EXIT
 held=0
@@ -36,7 +36,7 @@ serial() { # serial ADDRESS VALUE: the five writes that load a value of MMC1, le
 
 same() { # same NAME WANTED: what tracerun makes of standard input is the wanted lines
   local got
-  got=$("$program"; echo .)
+  got=$(program tracerun; echo .)
   if [ "$got" == "$2"$'\n.' ]; then
     held=$((held + 1))
   else
@@ -173,7 +173,7 @@ malformed "a malformed event after an image that no load takes" < <(trace 00 "$d
 
 # What cannot be written is told on standard error: the program has no status to set.
 if [ -e /dev/full ]; then
-  message=$("$program" <"$dir/good" 2>&1 >/dev/full)
+  message=$(program tracerun <"$dir/good" 2>&1 >/dev/full)
   if [ "$message" = "tracerun: the text cannot be written" ]; then
     held=$((held + 1))
   else

@@ -12,11 +12,12 @@ need_c || exit 1
 need objcopy binutils command -v objcopy || exit 1
 folder=$(library_folder) || exit 1
 library=$(library_in "$folder") || exit 1
-is_fresh target/obj/tracerun.o || rt check tracerun >/dev/null 2>&1 || { echo "rt check tracerun does not make the program"; exit 1; }
 work=$(mktemp -d)
 trap 'rm -rf "$work"' EXIT
+tracerun_object "$work/tracerun.o" >"$work/log" 2>&1 ||
+  { tail -n 5 "$work/log"; echo "rt check tracerun does not make the program"; exit 1; }
 
-shipped_beside "$library" "$work/beside.a" && tracerun_within target/obj/tracerun.o "$work/tracerun.o" || exit 1
+shipped_beside "$library" "$work/beside.a" && tracerun_within "$work/tracerun.o" "$work/within.o" || exit 1
 mkdir "$work/calls" "$work/traces" && seeds "$work/calls" "$work/traces" || exit 1
 
 built() { # built NAME SOURCE WORDS..
@@ -26,7 +27,7 @@ built() { # built NAME SOURCE WORDS..
     { echo "$source does not build"; exit 1; }
 }
 built calls-trial trials/calls.c "$library" "$work/beside.a"
-built traces-trial trials/traces.c "$work/tracerun.o"
+built traces-trial trials/traces.c "$work/within.o"
 
 for name in calls traces; do
   "$work/$name-trial" 20000 "$work/$name"/* >"$work/log" 2>&1 || { cat "$work/log"; echo "$name: not as the model says"; exit 1; }

@@ -16,6 +16,10 @@ work=$(mktemp -d)
 trap 'rm -rf "$work"' EXIT
 export RUSTFLAGS="-D warnings" RUSTDOCFLAGS="-D warnings"
 manifest=rust/Cargo.toml
+here=$(uname -m)
+kept=lib/$here-linux/libbiekkarul.a
+version=$(sed -n 's/^#define BIEKKARUL_VERSION \([0-9]*\).*/\1/p' include/biekkarul.h)
+kit=$(kit) || exit 1
 sample=rust/examples/worked_case
 passed=0
 failed=0
@@ -95,7 +99,7 @@ finds_every_fault() {
 without_std() { cargo "$1" --offline --manifest-path "$manifest" --no-default-features "${@:2}"; }
 
 # The program tracerun, which rt check tracerun builds, prints the same text.
-as_tracerun() { diff <(target/bin/tracerun <"$1") <(replay "$1" 2>/dev/null); }
+as_tracerun() { diff <(program tracerun <"$1") <(replay "$1" 2>/dev/null); }
 
 # The build in a folder of its own, whose environment is said before it.
 build() { cargo build --offline --manifest-path "$manifest" --target-dir "$work/target" "$@"; }
@@ -142,32 +146,36 @@ make_misfits() {
     cp README.md "$work/text/libbiekkarul.a" &&
     head -c 9000 "$library" >"$work/cut/libbiekkarul.a" &&
     cp README.md "$work/no_code/text.o" && ar rc "$work/no_code/libbiekkarul.a" "$work/no_code/text.o" &&
-    archive_of newer 'unsigned biekkarul_version(void) { return 2; }' &&
+    archive_of newer "unsigned biekkarul_version(void) { return $((version + 1)); }" &&
     archive_of older 'unsigned biekkarul_versions(void) { return 1; }' &&
     archive_of computed 'unsigned biekkarul_version(void) { static volatile unsigned version = 1; return version; }'
 }
 
-# The crate in a repository of its own, with a stand-in for rt that notes each run.
+# The crate in a repository of its own, with a stand-in for rt that notes each run. It compiles a module of its own, as rt
+# does, by the compiler of the kit that it is given.
 repository=$work/repository
 make_repository() {
-  mkdir -p "$repository/crates" "$repository/rust" "$repository/lib/x86_64-linux" "$work/bin"
+  mkdir -p "$repository/crates" "$repository/rust" "$repository/${kept%/*}" "$work/bin"
   touch "$repository/crates.txt"
   echo one >"$repository/crates/source"
-  cp "$library" "$repository/lib/x86_64-linux/libbiekkarul.a"
+  cp "$library" "$repository/$kept"
+  cp lib/make.sh lib/modules.bash "$repository/lib"
   cp -r rust/src rust/build rust/build.rs rust/Cargo.toml rust/Cargo.lock "$repository/rust"
   : >"$work/runs"
+  echo "define i32 @biekkarul_version() { ret i32 $version }" >"$work/exports.bc"
   cat >"$work/bin/rt" <<END
 #!/usr/bin/env bash
 [ "\$*" != version ] || { echo "a stand-in"; exit; }
 echo "\$*" >>"$work/runs"
 echo "rt: it says this" >&2
-[ ! -e "$work/broken" ] && mkdir -p target/staticlib && cp "$library" target/staticlib/libexports.a
+[ ! -e "$work/broken" ] && source lib/modules.bash && archived "$work/exports.bc" x86_64 target/staticlib/libexports.a || exit
+[ ! -e "$work/otherwise" ] || echo >>target/staticlib/libexports.a
 END
   chmod +x "$work/bin/rt"
 }
 
 build_there() { # an empty BIEKKARUL_LIB is as none
-  BIEKKARUL_LIB='' PATH="$work/bin:$PATH" cargo build --offline \
+  BIEKKARUL_LIB='' RATTLE_HOME=$kit PATH="$work/bin:$PATH" cargo build --offline \
     --manifest-path "$repository/rust/Cargo.toml" --target-dir "$work/there" "$@"
 }
 prove_there() { BIEKKARUL_PROVE=1 build_there "$@"; }
@@ -182,19 +190,19 @@ runs_rt() { # runs_rt COUNT COMMAND..: the command succeeds; rt has then made th
 # shell than bash would not pass the functions on.
 shows_rt() {
   export -f prove_there build_there
-  export work repository
+  export work repository kit
   SHELL=$BASH script --quiet --return --command prove_there /dev/null </dev/null >"$work/terminal"
   local got=$?
   cat "$work/terminal"
   [ "$got" -eq 0 ] && grep -q "biekkarul: it says this" "$work/terminal"
 }
 
-tests_make_it() { (cd "$repository" && BIEKKARUL_LIB='' PATH="$work/bin:$PATH" library_folder); }
+tests_make_it() { (cd "$repository" && BIEKKARUL_LIB='' RATTLE_HOME=$kit PATH="$work/bin:$PATH" library_folder); }
 
 # Another content with an old time, and the same content with a new one.
 change_a_source() { echo "$RANDOM $RANDOM" >"$repository/crates/source" && touch -d "1 year ago" "$repository/crates/source"; }
 touch_a_source() { touch -d "1 minute" "$repository/crates/source"; }
-another_library() { echo another >"$repository/target/staticlib/libexports.a"; }
+another_library() { echo another >"$repository/target/staticlib/$here-linux/libbiekkarul.a"; }
 
 docs_there() {
   BIEKKARUL_LIB='' DOCS_RS=1 cargo doc --quiet --offline --manifest-path "$repository/rust/Cargo.toml" --target-dir "$work/docs"
@@ -291,7 +299,7 @@ done
 step "the crate carries the NOTICE" cmp NOTICE rust/NOTICE
 step "a library named by BIEKKARUL_LIB" links "$library" build
 step "a relative folder" links "$library" build_with_relative
-step "the library that the repository keeps" links lib/x86_64-linux/libbiekkarul.a build_with_kept
+step "the library that the repository keeps" links "$kept" build_with_kept
 
 make_misfits || { echo "wrapper: the libraries that do not fit cannot be made"; exit 1; }
 step "a folder without the library" refuses_library "has neither libbiekkarul.a nor libexports.a" "$work/without"
@@ -301,8 +309,12 @@ step "an empty archive" refuses_library "is an empty archive" "$work/empty_archi
 step "an empty file" refuses_library "is no archive" "$work/empty_file"
 step "a text" refuses_library "is no archive" "$work/text"
 step "an archive that is cut off" refuses_library "is an archive that is cut off" "$work/cut"
-step "an archive of a text" refuses_library "something else than machine code for x86-64" "$work/no_code"
-step "a library of another version" refuses_library "is of version 2, but this wrapper is for version 1" "$work/newer"
+step "an archive of a text" refuses_library "something else than machine code for x86_64 or aarch64 linux" "$work/no_code"
+for other in "${processors[@]}"; do
+  [ "$other" != "$here" ] || continue
+  step "a library for $other" refuses_library "is for $other, but this build is for $here" "$PWD/lib/$other-linux"
+done
+step "a library of another version" refuses_library "is of version $((version + 1)), but this wrapper is for version $version" "$work/newer"
 step "a library that has no version" refuses_library "has no function biekkarul_version" "$work/older"
 step "a version that is no plain number" refuses_library "does not say its version as a plain number" "$work/computed"
 step "a library and a proof" refuses_library "set one of them" "$BIEKKARUL_LIB" BIEKKARUL_PROVE=1
@@ -320,18 +332,20 @@ another_library
 step "it is made again where it is another than was made" runs_rt 3 prove_there
 change_a_source
 step "what rt says is shown on a terminal" runs_rt 4 shows_rt
-step "the tests make it for themselves" runs_rt 5 tests_make_it
+step "the tests take the same one" runs_rt 4 tests_make_it
 touch_a_source
-step "the tests take it again from the same sources" runs_rt 5 tests_make_it
+step "the tests take it again from the same sources" runs_rt 4 tests_make_it
 change_a_source
-step "the tests make it again from others" runs_rt 6 tests_make_it
+step "the tests make it again from others" runs_rt 5 tests_make_it
 another_library
-step "the tests make it again where it is another than was made" runs_rt 7 tests_make_it
-touch "$work/broken"
+step "the tests make it again where it is another than was made" runs_rt 6 tests_make_it
 change_a_source
-step "a failing rt" fails_with "'rt staticlib exports' made no" prove_there
+touch "$work/otherwise"
+step "an rt that compiles otherwise" fails_with "compiles its module otherwise than rt" prove_there
+touch "$work/broken"
+step "a failing rt" fails_with "'rt staticlib exports' does not make it" prove_there
 step "it is told what rt says" fails_with "rt: it says this" prove_there
-rm "$repository/lib/x86_64-linux/libbiekkarul.a"
+rm "$repository/$kept"
 step "a repository without the library" fails_with "BIEKKARUL_PROVE=1 makes it from the sources" build_there
 step "the pages need no library" docs_there
 

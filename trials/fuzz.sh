@@ -33,57 +33,19 @@ version=$(clang -dumpversion) || exit 1
 need "clang's sanitizers" "libclang-rt-${version%%.*}-dev" links_with_sanitizers || exit 1
 
 work=$PWD/target/trials
-mkdir -p "$work/kit" "$work/corpus/calls" "$work/corpus/traces" || exit 2
+mkdir -p "$work/corpus/calls" "$work/corpus/traces" || exit 2
 
-# The toolchain once more, by links, but for its clang: that one keeps the module which it is given.
-real=${RATTLE_HOME:-$(dirname "$(readlink -f "$(command -v rt)")")/..}
-real=$(cd "$real" && pwd) || exit 2
-native=$real/on/$(uname -m)/toolchain
-[ -x "$native/bin/clang" ] || { echo "the toolchain's clang is not where this script looks for it"; exit 2; }
-links_but() { # links_but NAME FROM TO: all that FROM holds, but for NAME, by links in TO
-  local file
-  for file in "$2"/*; do
-    [ "${file##*/}" = "$1" ] || ln -sfn "$file" "$3/${file##*/}"
-  done
-}
-catching_kit() {
-  local own
-  own=$work/kit/on/$(uname -m)
-  mkdir -p "$own/toolchain/bin"
-  links_but on "$real" "$work/kit"
-  links_but toolchain "$real/on/$(uname -m)" "$own"
-  links_but bin "$native" "$own/toolchain"
-  links_but clang "$native/bin" "$own/toolchain/bin"
-  cat >"$own/toolchain/bin/clang" <<END
-#!/usr/bin/env bash
-for word in "\$@"; do case \$word in *.bc) cp "\$word" "$work/caught.bc" ;; esac; done
-exec "$native/bin/clang" "\$@"
-END
-  chmod +x "$own/toolchain/bin/clang"
-}
-
-# catch NAME COMMAND..: the module that the command compiles becomes target/trials/NAME.bc.
-catch() {
-  local name=$1
-  shift
-  is_fresh "$work/$name.bc" && return
-  rm -f "$work/$name.bc"
-  rm -f "$work/caught.bc"
-  RATTLE_HOME=$work/kit "$@" >"$work/$name.log" 2>&1 && mv "$work/caught.bc" "$work/$name.bc" ||
-    { tail -n 5 "$work/$name.log"; echo "the module of $name was not caught"; return 1; }
-}
-
-# instrumented NAME: target/trials/NAME.o, optimised as the toolchain does, with the sanitizer and with coverage.
+# instrumented MODULE: target/trials/NAME.o, compiled as rt does, with the sanitizer and with coverage.
 instrumented() {
-  local words=(--target="$(uname -m)-unknown-linux-gnu" --no-default-config -x ir)
-  "$native/bin/clang" "${words[@]}" -S -emit-llvm -O0 -Xclang -disable-llvm-passes -o "$work/$1.ll" "$work/$1.bc" &&
-    sed -i 's/^attributes #0 = { nounwind/& sanitize_address/' "$work/$1.ll" &&
-    grep -q '^attributes #0 = .* sanitize_address' "$work/$1.ll" &&
-    "$native/bin/clang" "${words[@]}" -c -fPIC -O3 -fsanitize=address \
-      -fsanitize-coverage=inline-8bit-counters,pc-table,trace-cmp -o "$work/$1.o" "$work/$1.ll" &&
-    nm "$work/$1.o" | grep -q __sanitizer_cov_8bit_counters_init && nm "$work/$1.o" | grep -q __asan_report_load &&
-    nm "$work/$1.o" | grep -q __asan_report_store && ! grep '^define ' "$work/$1.ll" | grep -qv ' #0 ' ||
-    { echo "the module of $1 cannot be instrumented"; return 1; }
+  local name
+  name=$(basename "$1" .bc)
+  text_of "$1" "$(uname -m)" | sed 's/^attributes #0 = { nounwind/& sanitize_address/' >"$work/$name.ll" &&
+    grep -q '^attributes #0 = .* sanitize_address' "$work/$name.ll" &&
+    clang_for "$(uname -m)" "${as_rt[@]}" -fsanitize=address \
+      -fsanitize-coverage=inline-8bit-counters,pc-table,trace-cmp -o "$work/$name.o" "$work/$name.ll" &&
+    nm "$work/$name.o" | grep -q __sanitizer_cov_8bit_counters_init && nm "$work/$name.o" | grep -q __asan_report_load &&
+    nm "$work/$name.o" | grep -q __asan_report_store && ! grep '^define ' "$work/$name.ll" | grep -qv ' #0 ' ||
+    { echo "the module of $name cannot be instrumented"; return 1; }
 }
 
 linked() { # linked NAME SOURCE WORDS..
@@ -93,15 +55,12 @@ linked() { # linked NAME SOURCE WORDS..
     -fno-sanitize-recover=all -o "$work/$name" "$source" "$@" || { echo "$source does not build"; return 1; }
 }
 
-catching_kit || exit 2
 echo "proving and catching what is tried"
-staticlib() { rt staticlib exports && cp target/staticlib/libexports.a "$work/shipped.a"; }
-[ -f "$work/shipped.a" ] || rm -f "$work/exports.bc"
-catch exports staticlib || exit 1
-is_fresh "$work/tracerun.bc" || rm -f target/stamp/tracerun # so that it is compiled anew
-catch tracerun rt check tracerun || exit 1
-instrumented exports && instrumented tracerun || exit 1
-shipped_beside "$work/shipped.a" "$work/beside.a" && tracerun_within "$work/tracerun.o" "$work/within.o" || exit 1
+unset BIEKKARUL_LIB # the shipped library and the instrumented one are of one proof
+library=$(library_folder 2>"$work/exports.log") && library=$(library_in "$library") || { tail -n 5 "$work/exports.log"; exit 1; }
+tracerun_module >"$work/tracerun.log" 2>&1 || { tail -n 5 "$work/tracerun.log"; echo "the module of tracerun was not caught"; exit 1; }
+instrumented target/staticlib/exports.bc && instrumented "$work/tracerun.bc" || exit 1
+shipped_beside "$library" "$work/beside.a" && tracerun_within "$work/tracerun.o" "$work/within.o" || exit 1
 linked calls trials/calls.c "$work/exports.o" "$work/beside.a" || exit 1
 linked short trials/calls.c -DLENT_SHORT=1 "$work/exports.o" "$work/beside.a" || exit 1
 linked traces trials/traces.c "$work/within.o" || exit 1

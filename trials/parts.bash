@@ -1,4 +1,4 @@
-# What fuzz.sh and tests/trials.sh share: the inputs that they start from, the names of what they link, the faults.
+# What fuzz.sh and tests/trials.sh share: the inputs that they start from, what they link and its names, the faults.
 
 # bytes HEX..: those bytes.
 bytes() {
@@ -84,6 +84,22 @@ shipped_beside() {
   local name renamed=()
   for name in header load read write clock digits version; do renamed+=(--redefine-sym "biekkarul_$name=shipped_$name"); done
   objcopy "${renamed[@]}" "$1" "$2"
+}
+
+# target/trials/tracerun.bc: the module that tracerun is compiled from.
+tracerun_module() {
+  is_fresh target/trials/tracerun.bc && return
+  mkdir -p target/trials && rm -f target/stamp/tracerun # so that it is compiled anew
+  catch target/trials/tracerun.bc rt check tracerun
+}
+
+# tracerun_object TO: the machine code of tracerun for this processor. For x86-64 it is the one that rt links.
+tracerun_object() {
+  if [ "$(uname -m)" = x86_64 ]; then
+    is_fresh target/obj/tracerun.o || rt check tracerun && cp target/obj/tracerun.o "$1"
+  else
+    tracerun_module && compiled target/trials/tracerun.bc "$(uname -m)" "$1"
+  fi
 }
 
 # tracerun_within OBJECT TO: tracerun's machine code with the names that traces.c has for its main, its reads and its writes.

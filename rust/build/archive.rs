@@ -6,24 +6,65 @@ const MEMBER_HEADER: usize = 60;
 const SECTION_HEADER: usize = 64;
 const SYMBOL: usize = 24;
 const SYMBOL_TABLE: u64 = 2;
-const X86_64: u64 = 62;
 const NAME: &[u8] = b"biekkarul_version";
-const ENDBR64: &[u8] = &[0xF3, 0x0F, 0x1E, 0xFA];
 
-/// The number that the library's `biekkarul_version` answers.
-pub fn version(bytes: &[u8]) -> Result<u32, String> {
+/// A processor that the library is made for.
+pub struct Processor {
+    /// As cargo calls it.
+    pub name: &'static str,
+    /// As an object file calls it.
+    machine: u64,
+    /// The number that a function answers whose code does nothing else.
+    constant: fn(&[u8]) -> Option<u32>,
+}
+
+pub static PROCESSORS: [Processor; 2] = [
+    Processor {
+        name: "x86_64",
+        machine: 62,
+        constant: constant_on_x86_64,
+    },
+    Processor {
+        name: "aarch64",
+        machine: 183,
+        constant: constant_on_aarch64,
+    },
+];
+
+/// All of them, in words.
+pub fn names() -> String {
+    let names: Vec<&str> = PROCESSORS.iter().map(|one| one.name).collect();
+    names.join(" or ")
+}
+
+/// The number that the library's `biekkarul_version` answers, if it is a library for this processor.
+pub fn version(bytes: &[u8], wanted: &Processor) -> Result<u32, String> {
     let objects = objects(bytes)?;
     if objects.is_empty() {
         return Err("is an empty archive".to_string());
     }
-    if !objects.iter().all(|object| is_for_x86_64(object)) {
-        return Err("holds something else than machine code for x86-64 Linux".to_string());
+    for object in &objects {
+        check_processor(object, wanted)?;
     }
     let code = objects
         .iter()
         .find_map(|object| code_of_version(object))
         .ok_or("has no function biekkarul_version: it was made before version 1, or is another")?;
-    constant(code).ok_or_else(|| "does not say its version as a plain number".to_string())
+    (wanted.constant)(code).ok_or_else(|| "does not say its version as a plain number".to_string())
+}
+
+fn check_processor(object: &[u8], wanted: &Processor) -> Result<(), String> {
+    match processor_of(object) {
+        Some(found) if found.machine == wanted.machine => Ok(()),
+        Some(found) => Err(format!(
+            "is for {}, but this build is for {}",
+            found.name, wanted.name
+        )),
+        None => Err(format!(
+            "holds something else than machine code for {} linux",
+            names()
+        )),
+    }
 }
 
 /// The members of an archive, but for its own tables, whose names are `/` and `//`.
@@ -55,8 +96,11 @@ fn member(bytes: &[u8]) -> Option<(&[u8], &[u8], &[u8])> {
     Some((name, content, &bytes[next..]))
 }
 
-fn is_for_x86_64(object: &[u8]) -> bool {
-    object.starts_with(b"\x7FELF\x02\x01") && number(object, 18, 2) == Some(X86_64)
+fn processor_of(object: &[u8]) -> Option<&'static Processor> {
+    let machine = object
+        .strip_prefix(b"\x7FELF\x02\x01")
+        .and_then(|_| number(object, 18, 2))?;
+    PROCESSORS.iter().find(|one| one.machine == machine)
 }
 
 /// The code from the first byte of `biekkarul_version` to the end of its section.
@@ -98,12 +142,23 @@ fn content<'a>(object: &'a [u8], section: &[u8]) -> Option<&'a [u8]> {
     object.get(start..start.checked_add(size)?)
 }
 
-/// `mov eax, NUMBER; ret`, which is what a compiler makes of a constant.
-fn constant(code: &[u8]) -> Option<u32> {
-    match code.strip_prefix(ENDBR64).unwrap_or(code) {
-        &[0xB8, a, b, c, d, 0xC3, ..] => Some(u32::from_le_bytes([a, b, c, d])),
+/// `mov eax, NUMBER; ret`, which is what a compiler makes of a constant, maybe behind `endbr64`.
+fn constant_on_x86_64(code: &[u8]) -> Option<u32> {
+    let code = code.strip_prefix(&[0xF3, 0x0F, 0x1E, 0xFA]).unwrap_or(code);
+    match *code {
+        [0xB8, a, b, c, d, 0xC3, ..] => Some(u32::from_le_bytes([a, b, c, d])),
         _ => None,
     }
+}
+
+/// `mov w0, #NUMBER; ret`, with a number of 16 bits, maybe behind `bti c`.
+fn constant_on_aarch64(code: &[u8]) -> Option<u32> {
+    let code = code.strip_prefix(&[0x5F, 0x24, 0x03, 0xD5]).unwrap_or(code);
+    let (mov, ret) = (number(code, 0, 4)?, number(code, 4, 4)?);
+    if mov & 0xFFE0_001F != 0x5280_0000 || ret != 0xD65F_03C0 {
+        return None;
+    }
+    u32::try_from(mov >> 5 & 0xFFFF).ok()
 }
 
 /// The number of so many bytes at a place, the least first.

@@ -9,7 +9,7 @@
 //! - **Nothing more.** The library is proved to touch no byte outside the lent lengths, for every input;
 //!   it keeps no pointer and has no state of its own, so calls from several threads do not meet.
 //!
-//! The signatures are those of `include/biekkarul.h`, where `size_t` is `usize` on x86-64 Linux.
+//! The signatures are those of `include/biekkarul.h`, where `size_t` is `usize` on both processors.
 
 #![allow(unsafe_code)]
 
