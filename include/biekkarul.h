@@ -3,13 +3,14 @@
  * docs/ABI.md has the layout of the state and the rules in full. For C99, C11 and C++.
  *
  * Every lent buffer is a pointer and a length. A pointer is not null, also where the length is 0, and is
- * good for that many bytes (of digits: for that many numbers, where a uint64_t may stand); a buffer that is
- * not const must overlap with no other buffer of the call; the image of a read or write is the one loaded.
- * That is all that a caller owes: every length, every byte, every mode and every address is taken.
+ * good for that many bytes (of digits and of pages: for that many numbers, where a uint64_t or a uint32_t may
+ * stand); a buffer that is not const must overlap with no other buffer of the call; the image of a read or write
+ * is the one loaded. That is all that a caller owes: every length, every byte, every mode and every address is
+ * taken.
  *
- * Every answer is a number below 256, or 256 + N for refusal N. After a refusal every lent buffer holds
- * what it held. No function keeps a pointer or has a state of its own, so calls on different boards may
- * run on different threads.
+ * Every answer is a number below 256, or 256 + N for refusal N; biekkarul_write_moved has two bits above it.
+ * After a refusal every lent buffer holds what it held. No function keeps a pointer or has a state of its own, so
+ * calls on different boards may run on different threads.
  */
 #ifndef BIEKKARUL_H
 #define BIEKKARUL_H
@@ -22,7 +23,7 @@ extern "C" {
 #endif
 
 /* The version of the calls that this header declares; biekkarul_version() answers the library's. */
-#define BIEKKARUL_VERSION 1
+#define BIEKKARUL_VERSION 2
 
 /* Lengths of the lent buffers, in bytes. */
 #define BIEKKARUL_STATE_LENGTH 40  /* a board */
@@ -45,9 +46,31 @@ extern "C" {
 #define BIEKKARUL_UPPER 0x55      /* 'U': the upper screen everywhere */
 #define BIEKKARUL_LOWER 0x4C      /* 'L': the lower screen everywhere */
 
-/* Whether an answer is a refusal, and its number. */
-#define BIEKKARUL_IS_REFUSED(answer) ((answer) >= 256)
-#define BIEKKARUL_REFUSAL(answer) ((answer) - 256)
+/*
+ * Pages: the address space in 64 parts of 1 KB. biekkarul_pages tells where each is read from and where a write to it
+ * goes, as one number: its kind, 2^28 times, and an offset. The byte of an address is at the offset of its page +
+ * address % 1024.
+ */
+#define BIEKKARUL_PAGES 64
+#define BIEKKARUL_PAGE_LENGTH 1024
+#define BIEKKARUL_PAGE_KIND(page) ((page) >> 28)
+#define BIEKKARUL_PAGE_OFFSET(page) ((page)&0x0FFFFFFFu)
+
+/* The kinds of pages. */
+#define BIEKKARUL_PAGE_IMAGE 0   /* reads only: in the image, its header counted in */
+#define BIEKKARUL_PAGE_PRG_RAM 1 /* in PRG RAM */
+#define BIEKKARUL_PAGE_CHR_RAM 2 /* in CHR RAM */
+#define BIEKKARUL_PAGE_NOWHERE 3 /* a read answers 0; a write answers 0, and nothing is stored and nothing moves */
+#define BIEKKARUL_PAGE_REFUSED 4 /* the offset is the number of the refusal that the call would answer */
+#define BIEKKARUL_PAGE_CALL 5    /* writes only: a register may move, so make the call */
+
+/* Which pages a write may have moved, in the answer of biekkarul_write_moved. */
+#define BIEKKARUL_CHR_MOVED 0x10000u /* 0 to 7, of reads and of writes */
+#define BIEKKARUL_PRG_MOVED 0x20000u /* 32 to 63, of reads */
+
+/* Whether an answer is a refusal, and its number; what biekkarul_write_moved says above it is left aside. */
+#define BIEKKARUL_IS_REFUSED(answer) (((answer) & 0xFFFFu) >= 256)
+#define BIEKKARUL_REFUSAL(answer) (((answer) & 0xFFFFu) - 256)
 
 /* The refusals. */
 #define BIEKKARUL_HEADER_TOO_SHORT 1        /* header: fewer than 16 bytes */
@@ -160,6 +183,30 @@ uint16_t biekkarul_clock(uint8_t *state, size_t state_length);
  */
 uint16_t biekkarul_digits(const uint8_t *state, size_t state_length,
                           uint64_t *digits, size_t digits_length);
+
+/*
+ * Where pages are read from and where writes to them go, by the state alone: reads[i] and writes[i] are of page
+ * first + i, whose first address is (first + i) * 1024. The lengths count numbers; either may be 0, with a pointer
+ * that is not null. From then on a caller reads and writes its own bytes, until a write moves a page:
+ * biekkarul_write_moved says which. Pages 8 to 31, and the writes' 32 to 63, stay as long as the image is loaded; a
+ * clock moves none; a load, a power cycle or another state makes all anew. Offsets lie in an image of the length that
+ * the state has as BIEKKARUL_DIGIT_IMAGE_LENGTH.
+ * Answers 0. Refused with 10 when the state is out of range, or when first and a length are above 64 together.
+ */
+uint16_t biekkarul_pages(const uint8_t *state, size_t state_length, uint8_t first,
+                         uint32_t *reads, size_t reads_length,
+                         uint32_t *writes, size_t writes_length);
+
+/*
+ * A write that also says which pages it may have moved: all that biekkarul_write does, and its answer in the low 16
+ * bits. BIEKKARUL_CHR_MOVED and BIEKKARUL_PRG_MOVED are set above it just where a register that those pages hang on
+ * holds another value than before; a refused write sets neither.
+ */
+uint32_t biekkarul_write_moved(uint8_t *state, size_t state_length,
+                               const uint8_t *image, size_t image_length,
+                               uint8_t *prg_ram, size_t prg_ram_length,
+                               uint8_t *chr_ram, size_t chr_ram_length,
+                               uint16_t address, uint8_t value);
 
 /*
  * The library's version. Where it is not BIEKKARUL_VERSION, this header is not that library's.

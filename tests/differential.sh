@@ -1,6 +1,6 @@
 #!/usr/bin/env bash
-# House mode of the exported library against the original Rust: tests of the harness, the recorded sample made anew, then
-# the gate's run, which has to compare enough.
+# House mode of the exported library, by its calls, through the wrapper and through pages, against the original Rust: tests
+# of the harness, the recorded sample made anew, then the gate's run, which has to compare enough.
 # The Rust is taken from the folder named in POTATIS, else from ../shared/docs/src; without either this is skipped.
 # The library is the one of library_folder.
 set -uo pipefail

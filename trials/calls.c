@@ -4,8 +4,9 @@
  * of the library that the sanitizer watches, and of the library as it is shipped, whose functions are here as
  * shipped_load and so on (in the gate, without the sanitizer, both are the shipped one). They are held to what
  * biekkarul.h promises and, from an accepted load on, to the model: answers, RAMs and, after each call, every digit of
- * the state. Where the input has put other bytes into the state and they are still a board's, the model goes on from the
- * digits that they are read into.
+ * the state and all pages. A map of pages is kept as a caller keeps it, made anew only where an answer says so, and
+ * must stay the whole one; reads and writes by the calls must be those of its pages. Where the input has put other bytes
+ * into the state and they are still a board's, the model goes on from the digits that they are read into.
  */
 #include "lent.h"
 
@@ -17,6 +18,9 @@ uint16_t shipped_read(const uint8_t *, size_t, const uint8_t *, size_t, const ui
 uint16_t shipped_write(uint8_t *, size_t, const uint8_t *, size_t, uint8_t *, size_t, uint8_t *, size_t, uint16_t, uint8_t);
 uint16_t shipped_clock(uint8_t *, size_t);
 uint16_t shipped_digits(const uint8_t *, size_t, uint64_t *, size_t);
+uint16_t shipped_pages(const uint8_t *, size_t, uint8_t, uint32_t *, size_t, uint32_t *, size_t);
+uint32_t shipped_write_moved(uint8_t *, size_t, const uint8_t *, size_t, uint8_t *, size_t, uint8_t *, size_t, uint16_t,
+                             uint8_t);
 
 /* One set of lent buffers. */
 struct board {
@@ -150,6 +154,101 @@ static void digits_as_the_model_has(void) {
     MUST(!memcmp(digits, wanted, sizeof wanted));
 }
 
+/* Numbers of pages, with room around them. */
+struct numbers {
+    uint32_t reads[BIEKKARUL_PAGES + GUARD], writes[BIEKKARUL_PAGES + GUARD];
+};
+
+/* So many pages of the state, by both libraries and by the model, which goes by the state's digits alone. */
+static unsigned ask_pages(unsigned page, size_t reads_length, size_t writes_length, struct numbers *told) {
+    static struct model seen;
+    struct numbers shipped, wanted;
+    uint64_t digits[DIGITS_ROOM];
+    int state_right = read_digits(digits, BIEKKARUL_DIGITS) == 0;
+    unsigned answer;
+    if (state_right) model_take_up(&seen, digits);
+    memset(told, 0x5A, sizeof *told);
+    shipped = wanted = *told;
+    lend((uint8_t *)told->reads, sizeof told->reads, reads_length * sizeof *told->reads);
+    lend((uint8_t *)told->writes, sizeof told->writes, writes_length * sizeof *told->writes);
+    answer = biekkarul_pages(first.state, state_length, (uint8_t)page, told->reads, reads_length, told->writes,
+                             writes_length);
+    ASAN_UNPOISON_MEMORY_REGION(told, sizeof *told);
+    MUST(answer == shipped_pages(second.state, state_length, (uint8_t)page, shipped.reads, reads_length, shipped.writes,
+                                 writes_length));
+    MUST(!memcmp(told, &shipped, sizeof shipped));
+    MUST(answer == model_pages(&seen, state_right, page, wanted.reads, reads_length, wanted.writes, writes_length));
+    MUST(!memcmp(told, &wanted, sizeof wanted));
+    return answer;
+}
+
+/* The map that a caller keeps, which parts of it the last call asks to be made anew, and how often it was looked at. */
+static struct numbers map;
+static unsigned stale, turn;
+
+#define CHR_PAGES 8u
+#define FIRST_PRG_PAGE 32u
+#define ALL_STALE 1u
+
+static void fill(unsigned page, size_t reads_length, size_t writes_length) {
+    struct numbers told;
+    MUST(ask_pages(page, reads_length, writes_length, &told) == 0);
+    memcpy(map.reads + page, told.reads, reads_length * sizeof *told.reads);
+    memcpy(map.writes + page, told.writes, writes_length * sizeof *told.writes);
+}
+
+static void refill(void) {
+    if (stale & ALL_STALE) fill(0, BIEKKARUL_PAGES, BIEKKARUL_PAGES);
+    if (stale & BIEKKARUL_CHR_MOVED) fill(0, CHR_PAGES, CHR_PAGES);
+    if (stale & BIEKKARUL_PRG_MOVED) fill(FIRST_PRG_PAGE, BIEKKARUL_PAGES - FIRST_PRG_PAGE, 0);
+    stale = 0;
+}
+
+/* What a read through its page answers. */
+static unsigned read_through(unsigned address) {
+    const uint32_t page = map.reads[address / BIEKKARUL_PAGE_LENGTH], offset = BIEKKARUL_PAGE_OFFSET(page);
+    const size_t at = offset + address % BIEKKARUL_PAGE_LENGTH;
+    switch (BIEKKARUL_PAGE_KIND(page)) {
+    case BIEKKARUL_PAGE_IMAGE: MUST(at < image_length); return image[at];
+    case BIEKKARUL_PAGE_PRG_RAM: MUST(at < prg_length); return first.prg_ram[at];
+    case BIEKKARUL_PAGE_CHR_RAM: MUST(at < chr_length); return first.chr_ram[at];
+    case BIEKKARUL_PAGE_REFUSED: return REFUSED(offset);
+    default: MUST(BIEKKARUL_PAGE_KIND(page) == BIEKKARUL_PAGE_NOWHERE); return 0;
+    }
+}
+
+/* The map that was kept up is the whole one, and the calls read what its pages say: four of them after each call. */
+static void map_as_the_calls_read(void) {
+    struct numbers whole;
+    unsigned page, address, called;
+    refill();
+    MUST(ask_pages(0, BIEKKARUL_PAGES, BIEKKARUL_PAGES, &whole) == 0);
+    MUST(!memcmp(map.reads, whole.reads, BIEKKARUL_PAGES * sizeof *map.reads));
+    MUST(!memcmp(map.writes, whole.writes, BIEKKARUL_PAGES * sizeof *map.writes));
+    if (model.image_length != image_length) return; /* an input has put another length into the state */
+    turn++;
+    for (page = turn % 16; page < BIEKKARUL_PAGES; page += 16) {
+        address = page * BIEKKARUL_PAGE_LENGTH + turn * 341 % BIEKKARUL_PAGE_LENGTH;
+        called = biekkarul_read(first.state, state_length, image, image_length, first.prg_ram, prg_length,
+                                first.chr_ram, chr_length, (uint16_t)address);
+        MUST(called == read_through(address));
+    }
+}
+
+/* A write that was not refused before its board was asked did what its page says, moving nothing but by the call. */
+static void write_as_its_page_says(unsigned address, unsigned value, unsigned answer, unsigned moved) {
+    const uint32_t page = map.writes[address / BIEKKARUL_PAGE_LENGTH], offset = BIEKKARUL_PAGE_OFFSET(page);
+    const size_t at = offset + address % BIEKKARUL_PAGE_LENGTH;
+    if (BIEKKARUL_PAGE_KIND(page) == BIEKKARUL_PAGE_CALL) return;
+    MUST(moved == 0 && !memcmp(first.state, before.state, state_length));
+    switch (BIEKKARUL_PAGE_KIND(page)) {
+    case BIEKKARUL_PAGE_PRG_RAM: MUST(answer == 0 && at < prg_length && first.prg_ram[at] == value); break;
+    case BIEKKARUL_PAGE_CHR_RAM: MUST(answer == 0 && at < chr_length && first.chr_ram[at] == value); break;
+    case BIEKKARUL_PAGE_NOWHERE: MUST(answer == 0 && same(&first, &before)); break;
+    default: MUST(BIEKKARUL_PAGE_KIND(page) == BIEKKARUL_PAGE_REFUSED && answer == REFUSED(offset));
+    }
+}
+
 /* "Order in load: 9, 10" and then as the model says. */
 static unsigned wanted_of_load(unsigned mode) {
     if (prg_length != BIEKKARUL_RAM_LENGTH || chr_length != BIEKKARUL_RAM_LENGTH) return REFUSED(9);
@@ -170,6 +269,7 @@ static void do_load(unsigned mode) {
         MUST(answer == 0 && lengths_right());
         model_load(&model, image, image_length, mode);
         reached = 1;
+        stale = ALL_STALE;
         rams_as_the_model_has();
     }
 }
@@ -199,15 +299,33 @@ static int is_notice(unsigned answer) {
            answer == BIEKKARUL_LOWER;
 }
 
-static void do_write(unsigned address, unsigned value, size_t lent_length) {
+/* A plain write of both libraries: its answer, with no bit above it. */
+static unsigned plain_write(unsigned address, unsigned value, size_t lent_length) {
     struct board *a = &first, *b = &second;
-    unsigned wanted = wanted_first(lent_length);
     unsigned answer = biekkarul_write(a->state, state_length, image, lent_length, a->prg_ram, prg_length, a->chr_ram,
                                       chr_length, (uint16_t)address, (uint8_t)value);
     MUST(answer == shipped_write(b->state, state_length, image, lent_length, b->prg_ram, prg_length, b->chr_ram,
                                  chr_length, (uint16_t)address, (uint8_t)value));
+    return answer;
+}
+
+/* One that says which pages it moved. */
+static unsigned telling_write(unsigned address, unsigned value, size_t lent_length) {
+    struct board *a = &first, *b = &second;
+    unsigned answer = biekkarul_write_moved(a->state, state_length, image, lent_length, a->prg_ram, prg_length,
+                                            a->chr_ram, chr_length, (uint16_t)address, (uint8_t)value);
+    MUST(answer == shipped_write_moved(b->state, state_length, image, lent_length, b->prg_ram, prg_length, b->chr_ram,
+                                       chr_length, (uint16_t)address, (uint8_t)value));
+    return answer;
+}
+
+static void do_write(unsigned address, unsigned value, size_t lent_length, int telling) {
+    static struct model was;
+    unsigned wanted = wanted_first(lent_length);
+    unsigned said = telling ? telling_write(address, value, lent_length) : plain_write(address, value, lent_length);
+    unsigned answer = said & 0xFFFF, moved = said - answer;
     if (refused(answer, WRITE_REFUSALS)) {
-        MUST(same(&first, &before));
+        MUST(moved == 0 && same(&first, &before));
     } else {
         MUST(lengths_right() && (answer == 0 || is_notice(answer)));
         MUST(changed(before.prg_ram, first.prg_ram, prg_length) +
@@ -215,7 +333,11 @@ static void do_write(unsigned address, unsigned value, size_t lent_length) {
              1);
         MUST(address < 0x8000 || changed(before.prg_ram, first.prg_ram, prg_length) == 0);
     }
+    was = model;
     MUST(answer == (wanted == 0 ? model_write(&model, address, value) : wanted));
+    MUST(moved == (telling && wanted == 0 ? moved_bits(&was, &model) : 0));
+    if (wanted == 0) write_as_its_page_says(address, value, answer, moved);
+    stale |= telling ? moved : ALL_STALE;
     if (reached) rams_as_the_model_has();
 }
 
@@ -231,6 +353,13 @@ static void do_clock(void) {
 static void do_digits(unsigned choice) {
     uint64_t digits[DIGITS_ROOM];
     read_digits(digits, near_length(choice, BIEKKARUL_DIGITS));
+    MUST(same(&first, &before));
+}
+
+/* Any first page and any two counts of pages. */
+static void do_pages(unsigned page, unsigned reads_length, unsigned writes_length) {
+    struct numbers told;
+    ask_pages(page, reads_length % (BIEKKARUL_PAGES + GUARD), writes_length % (BIEKKARUL_PAGES + GUARD), &told);
     MUST(same(&first, &before));
 }
 
@@ -263,18 +392,21 @@ static void spoil(unsigned place, unsigned value) {
     first.state[place % state_length] = second.state[place % state_length] = (uint8_t)value;
     reached = read_digits(digits, BIEKKARUL_DIGITS) == 0 && lengths_right();
     if (!reached) return;
+    stale = ALL_STALE;
     model_take_up(&model, digits);
     memcpy(model.prg_ram, first.prg_ram, sizeof model.prg_ram);
     memcpy(model.chr_ram, first.chr_ram, sizeof model.chr_ram);
 }
 
+/* Bit 5 of a write's byte: it says which pages it moved. */
+#define TELLING 0x20
 /* Bit 6 of a call's byte: the image is lent a byte shorter than it was loaded. */
 #define SHORTER_IMAGE 0x40
 /* Bit 7: the rarer one of two kinds. */
 #define RARER 0x80
 
 static void one_call(struct input *in) {
-    unsigned kind = take(in), address, value;
+    unsigned kind = take(in), address, value, more;
     size_t lent_length = kind & SHORTER_IMAGE && image_length > 0 ? image_length - 1 : image_length;
     copy(&before, &first);
     switch (kind % 8) {
@@ -285,7 +417,7 @@ static void one_call(struct input *in) {
     case 4:
         address = take2(in);
         value = take(in);
-        do_write(address, value, lent_length);
+        do_write(address, value, lent_length, (kind & TELLING) != 0);
         break;
     case 5:
         if (kind & RARER) do_digits(take(in));
@@ -301,11 +433,18 @@ static void one_call(struct input *in) {
         }
         break;
     default:
-        if (kind & RARER) do_load(take(in));
-        else do_clock();
+        address = take(in);
+        if (kind & RARER) {
+            do_load(address);
+        } else {
+            value = take(in);
+            more = take(in);
+            do_pages(address, value, more);
+        }
     }
     MUST(same(&first, &second));
     if (reached) digits_as_the_model_has();
+    if (reached) map_as_the_calls_read();
 }
 
 /* The choice of a length that stands for a wrong magic instead, with the right length. */
@@ -339,8 +478,10 @@ int LLVMFuzzerTestOneInput(const uint8_t *bytes, size_t length) {
     start(&second);
     start(&before);
     reached = 0;
+    stale = turn = 0;
     do_load(mode < 250 ? mode & 1 : mode);
     if (reached) digits_as_the_model_has();
+    if (reached) map_as_the_calls_read();
     while (in.left > 0) one_call(&in);
     return 0;
 }

@@ -131,28 +131,37 @@ static unsigned mmc3_prg_bank(const struct model *m, unsigned window) {
     return (window == 0) == (m->mmc3_prg_mode == 0) ? m->r[6] : last - 1;
 }
 
-static unsigned prg_read(const struct model *m, const uint8_t *image, unsigned address) {
-    unsigned upper = address >= 0xC000, at = address % 0x4000;
+/* The PRG bank that an address shows, and its size. */
+static unsigned prg_bank(const struct model *m, unsigned address, unsigned *size) {
+    unsigned upper = address >= 0xC000;
+    *size = m->mapper == MMC3 ? 0x2000 : PRG_BLOCK;
     switch (m->mapper) {
-    case MMC1: return prg_byte(m, image, PRG_BLOCK, mmc1_prg_bank(m, upper), at);
-    case UXROM: return prg_byte(m, image, PRG_BLOCK, upper ? LAST_OF(m->prg) : m->uxrom_bank, at);
-    case MMC3: return prg_byte(m, image, 0x2000, mmc3_prg_bank(m, address / 0x2000 % 4), address % 0x2000);
-    default:
-        if (m->mapper == CNROM && !m->board_mode && !upper && m->prg == 1) return REFUSED(13);
-        return prg_byte(m, image, PRG_BLOCK, upper ? LAST_OF(m->prg) : 0, at);
+    case MMC1: return mmc1_prg_bank(m, upper);
+    case UXROM: return upper ? LAST_OF(m->prg) : m->uxrom_bank;
+    case MMC3: return mmc3_prg_bank(m, address / 0x2000 % 4);
+    default: return upper ? LAST_OF(m->prg) : 0;
     }
+}
+
+/* House CNROM: 2000-7FFF, and with one PRG block 8000-BFFF. */
+static int no_such_place(const struct model *m, unsigned address) {
+    if (m->mapper != CNROM || m->board_mode || address < 0x2000) return 0;
+    return address < 0x8000 || (address < 0xC000 && m->prg == 1);
 }
 
 static int has_prg_ram(const struct model *m) { return m->mapper == MMC1 || m->mapper == MMC3; }
 
 static unsigned model_read(const struct model *m, const uint8_t *image, unsigned address) {
     unsigned bank, size;
-    if (address >= 0x8000) return prg_read(m, image, address);
+    if (no_such_place(m, address)) return REFUSED(13);
+    if (address >= 0x8000) {
+        bank = prg_bank(m, address, &size);
+        return prg_byte(m, image, size, bank, address % size);
+    }
     if (address < 0x2000) {
         bank = chr_bank(m, address, &size);
         return chr_byte(m, image, size, bank, address % size);
     }
-    if (m->mapper == CNROM && !m->board_mode) return REFUSED(13);
     return address >= 0x6000 && has_prg_ram(m) ? m->prg_ram[address - 0x6000] : 0;
 }
 
@@ -251,6 +260,84 @@ static unsigned model_clock(struct model *m) {
     m->reload = 0;
     if (m->board_mode) return m->counter == 0 && m->enabled;
     return !marked && at_zero && m->enabled;
+}
+
+/*
+ * Pages, from docs/ABI.md and the windows of document 01: where the kilobyte that begins at an address is read from,
+ * and where a write to it goes. They stand beside the reads and writes above and are held to them.
+ */
+#define PAGE(kind, offset) (((kind) << 28) + (unsigned)(offset))
+#define REFUSED_PAGE(number) PAGE(4u, number)
+#define NOWHERE_PAGE PAGE(3u, 0)
+#define CALL_PAGE PAGE(5u, 0)
+
+static inline unsigned prg_page(const struct model *m, unsigned address) {
+    unsigned size, bank = prg_bank(m, address, &size);
+    size_t start;
+    if (!bank_start(m, bank, size, PRG_BLOCK * (size_t)m->prg, &start)) return REFUSED_PAGE(11);
+    return PAGE(0u, HEADER_LENGTH + start + address % size);
+}
+
+static inline unsigned chr_page(const struct model *m, unsigned address) {
+    unsigned size, bank = chr_bank(m, address, &size);
+    size_t start;
+    if (!bank_start(m, bank, size, chr_length_of(m), &start)) return REFUSED_PAGE(11);
+    if (m->chr == 0) return PAGE(2u, start + address % size);
+    return PAGE(0u, HEADER_LENGTH + PRG_BLOCK * (size_t)m->prg + start + address % size);
+}
+
+static inline unsigned middle_page(const struct model *m, unsigned address) {
+    return address >= 0x6000 && has_prg_ram(m) ? PAGE(1u, address - 0x6000) : NOWHERE_PAGE;
+}
+
+static inline unsigned model_read_page(const struct model *m, unsigned page) {
+    unsigned address = page * 1024;
+    if (no_such_place(m, address)) return REFUSED_PAGE(13);
+    if (address >= 0x8000) return prg_page(m, address);
+    return address < 0x2000 ? chr_page(m, address) : middle_page(m, address);
+}
+
+/* House mode stores at the address itself, whatever bank is shown; CNROM in its PRG RAM. */
+static inline unsigned chr_write_page(const struct model *m, unsigned address) {
+    if (m->board_mode) return m->chr == 0 ? chr_page(m, address) : NOWHERE_PAGE;
+    if (m->mapper == MMC3) return NOWHERE_PAGE;
+    if (m->mapper == CNROM) return PAGE(1u, address);
+    return m->chr == 0 ? PAGE(2u, address) : REFUSED_PAGE(12);
+}
+
+static inline unsigned model_write_page(const struct model *m, unsigned page) {
+    unsigned address = page * 1024;
+    if (address >= 0x8000) return m->mapper == NROM ? NOWHERE_PAGE : CALL_PAGE;
+    if (no_such_place(m, address)) return REFUSED_PAGE(13);
+    return address < 0x2000 ? chr_write_page(m, address) : middle_page(m, address);
+}
+
+/* The call for pages: the numbers of so many of reads and of writes, or 10 and nothing written. */
+static inline unsigned model_pages(const struct model *m, int state_right, unsigned first, uint32_t *reads,
+                                   size_t reads_length, uint32_t *writes, size_t writes_length) {
+    int told = state_right && first + reads_length <= 64 && first + writes_length <= 64;
+    unsigned i;
+    for (i = 0; told && i < reads_length; i++) reads[i] = model_read_page(m, first + i);
+    for (i = 0; told && i < writes_length; i++) writes[i] = model_write_page(m, first + i);
+    return told ? 0 : REFUSED(10);
+}
+
+/* Whether a register that 0000-1FFF hangs on holds another value than before, and one of 8000-FFFF. */
+static inline int chr_moved(const struct model *was, const struct model *is) {
+    int mmc1 = was->mmc1_chr_mode != is->mmc1_chr_mode || was->chr_0 != is->chr_0 || was->chr_1 != is->chr_1;
+    int mmc3 = was->mmc3_chr_mode != is->mmc3_chr_mode || memcmp(was->r, is->r, 6 * sizeof *is->r);
+    return mmc1 || mmc3 || was->cnrom_bank != is->cnrom_bank;
+}
+
+static inline int prg_moved(const struct model *was, const struct model *is) {
+    int mmc1 = was->mmc1_prg_mode != is->mmc1_prg_mode || was->mmc1_prg != is->mmc1_prg;
+    int mmc3 = was->mmc3_prg_mode != is->mmc3_prg_mode || was->r[6] != is->r[6] || was->r[7] != is->r[7];
+    return mmc1 || mmc3 || was->uxrom_bank != is->uxrom_bank;
+}
+
+/* What a write that takes a board from one to the other has above its answer. */
+static inline unsigned moved_bits(const struct model *was, const struct model *is) {
+    return (chr_moved(was, is) ? 0x10000u : 0) + (prg_moved(was, is) ? 0x20000u : 0);
 }
 
 /* A mirroring's digit is the place of its letter. */

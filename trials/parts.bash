@@ -49,13 +49,15 @@ spoils() {
 
 # seeds CALLS TRACES: fills the two folders.
 seeds() {
-  local mapper mode counts choice byte6 zeros=00000000000000000000
+  local mapper mode counts choice byte6 write zeros=00000000000000000000
   for mapper in 0 1 2 3 4; do
     byte6=$(printf '%02X' $((mapper * 16)))
     for mode in 00 01; do
       for counts in 0100 0101 0202 0300 0402 4040 8080; do
-        # mode, choice of the image's length, header, choices of three lengths
-        bytes "$mode" 00 "$counts$byte6${zeros:0:18}" 000000 "$(history "$mapper" 00 02 05)" >"$1/seed-$mapper-$mode-$counts"
+        for write in 02 22; do # plain, and telling which pages it moved
+          # mode, choice of the image's length, header, choices of three lengths
+          bytes "$mode" 00 "$counts$byte6${zeros:0:18}" 000000 "$(history "$mapper" 00 "$write" 05)" >"$1/seed-$mapper-$mode-$counts-$write"
+        done
       done
       bytes "$mode" 00 "0202$byte6${zeros:0:18}" 000000 "$(spoils "$mapper")" 85008500 "$(history "$mapper" 00 02 05)" >"$1/seed-spoilt-$mapper-$mode"
       for counts in 0100 0101 0103 0200 0201; do # 40,976 bytes at most
@@ -74,6 +76,8 @@ seeds() {
   for choice in 04 08 0C; do # headers that mark NES 2.0 and that do not, and room for other counts of digits
     bytes 00 00 010000"$choice${zeros:0:16}" 000000 8500 85F3 85F5 85F8 85FF >"$1/seed-digits-$choice"
   done
+  # all pages, some, none, one too many, and from page 255 on; of a state that is one, then of one that is none
+  bytes 00 00 020040"${zeros:0:18}" 000000 07004040 07080808 07200020 07400000 07004100 07000041 07FF0101 860001 07004040 >"$1/seed-pages"
   # an image lent a byte shorter than it was loaded, and a read of the image's last byte
   bytes 00 00 010100"${zeros:0:18}" 000000 408000 428000FF >"$1/seed-other-length"
   bytes 00 00 010100"${zeros:0:18}" 000000 001FFF >"$1/seed-last-byte"
@@ -82,7 +86,7 @@ seeds() {
 # shipped_beside LIBRARY TO: the shipped library with the names that calls.c has for it.
 shipped_beside() {
   local name renamed=()
-  for name in header load read write clock digits version; do renamed+=(--redefine-sym "biekkarul_$name=shipped_$name"); done
+  for name in header load read write clock digits pages write_moved version; do renamed+=(--redefine-sym "biekkarul_$name=shipped_$name"); done
   objcopy "${renamed[@]}" "$1" "$2"
 }
 

@@ -1,10 +1,11 @@
-//! Plays a history on both sides and compares every answer.
+//! Plays a history on both sides and compares every answer. Our side may be played through pages too.
 
 use crate::events::{describe, Answer, Event, Kind, PANICKED, REFUSED};
 use crate::images::Image;
 use crate::library::{RAM, STATE};
 use crate::original::Original;
 use crate::ours::Ours;
+use crate::paged::Paged;
 use crate::sabotage::Sabotage;
 use crate::tally::{Board, Tally};
 
@@ -30,6 +31,10 @@ pub enum Fault {
     Number,
     State,
     Ram,
+    /// The wrapper, which serves from pages, parts from the calls.
+    Wrapper,
+    /// What is read and stored through the map of pages parts from the calls.
+    Map,
 }
 
 impl Fault {
@@ -41,7 +46,7 @@ impl Fault {
 
 /// What both RAMs must hold: the paper's stores, made beside each accepted write. It stands in for the bytes as they
 /// were before a refusal, and for CNROM's PRG RAM, which the original never lets anyone read.
-struct Shadow {
+pub struct Shadow {
     prg_ram: Box<[u8; RAM]>,
     chr_ram: Box<[u8; RAM]>,
 }
@@ -61,30 +66,63 @@ impl Shadow {
             _ => {}
         }
     }
+
+    /// Whether two RAMs hold this.
+    pub fn check(&self, prg_ram: &[u8; RAM], chr_ram: &[u8; RAM], when: &str, fault: Fault) -> Result<(), Mismatch> {
+        for (name, held, wanted) in [("PRG RAM", prg_ram, &*self.prg_ram), ("CHR RAM", chr_ram, &*self.chr_ram)] {
+            if held != wanted {
+                let place = (0..RAM).find(|&place| held[place] != wanted[place]).unwrap_or(0);
+                let (held, wanted) = (held[place], wanted[place]);
+                let what = format!("{name} {when} holds {held:02X} at {place:04X} instead of {wanted:02X}");
+                return Err(fault.found(what));
+            }
+        }
+        Ok(())
+    }
+}
+
+/// Whether a history is played through pages too, beside the calls one by one.
+#[derive(Clone, Copy, PartialEq, Eq)]
+pub enum Sides {
+    CallsAlone,
+    PagesToo,
 }
 
 /// Both sides, with buffers that serve one history after another.
 pub struct Pair {
     pub ours: Ours,
+    paged: Option<Paged>,
     shadow: Shadow,
+    sabotage: Sabotage,
 }
 
 impl Pair {
     pub fn new(sabotage: Sabotage) -> Pair {
         let shadow = Shadow { prg_ram: Box::new([0; RAM]), chr_ram: Box::new([0; RAM]) };
-        Pair { ours: Ours::new(sabotage), shadow }
+        Pair { ours: Ours::new(sabotage), paged: None, shadow, sabotage }
     }
 
     /// Loads an image that must be accepted and plays the events. Answers how many were played: all, or up to and
     /// with the first refused write. (A refused read ends nothing: the original's read takes its board by shared
     /// reference and has nothing inside that could have changed.)
-    pub fn play(&mut self, image: &Image, events: &[Event], tally: &mut Tally) -> Result<usize, Mismatch> {
-        let mut original = self.load(image)?;
+    ///
+    /// Halfway the wrapper goes on from the parts that the calls have left.
+    pub fn play(
+        &mut self,
+        image: &Image,
+        events: &[Event],
+        sides: Sides,
+        tally: &mut Tally,
+    ) -> Result<usize, Mismatch> {
+        let mut original = self.load(image, sides)?;
         tally.count_load(0);
         let board = &mut tally.boards[usize::from(image.mapper())];
         board.histories += 1;
         let mut played = events.len();
         for (number, event) in events.iter().enumerate() {
+            if let (Some(paged), true) = (&mut self.paged, number == events.len() / 2) {
+                paged.take_up(&self.ours)?;
+            }
             let step = self.step(image, &mut original, event, board);
             if step.map_err(|mismatch| Mismatch { event: Some(number), ..mismatch })? {
                 played = number + 1;
@@ -95,13 +133,17 @@ impl Pair {
         Ok(played)
     }
 
-    fn load(&mut self, image: &Image) -> Result<Original, Mismatch> {
+    fn load(&mut self, image: &Image, sides: Sides) -> Result<Original, Mismatch> {
         let answer = self.ours.load(&image.bytes);
         if answer != 0 {
             return Err(Fault::Load.found(format!("the load of a valid image answers {answer}")));
         }
         let original = Original::load(&image.bytes)
             .map_err(|error| Fault::Load.found(format!("the original does not load a valid image: {error:?}")))?;
+        self.paged = match sides {
+            Sides::CallsAlone => None,
+            Sides::PagesToo => Some(Paged::load(&image.bytes, self.sabotage)?),
+        };
         self.shadow.clear();
         self.check_rams("after the load")?;
         Ok(original)
@@ -119,9 +161,16 @@ impl Pair {
         let before = self.ours.state;
         let (ours, theirs) = (self.ours.call(event), original.call(event));
         board.count(event.kind, ours);
-        if ours != theirs || theirs == PANICKED {
+        let is_refused = ours != theirs || theirs == PANICKED;
+        if is_refused {
             self.check_refusal(image.mapper(), event, ours, theirs, &before)?;
             board.count_refusal(ours);
+        }
+        if let Some(paged) = &mut self.paged {
+            paged.step(event, &self.ours, ours, board)?;
+        }
+        if is_refused {
+            self.check_rams("after a refusal")?;
             return Ok(event.kind == Kind::Write);
         }
         match event.kind {
@@ -156,22 +205,12 @@ impl Pair {
         if self.ours.state != *before {
             return Err(Fault::State.found(format!("after refusal {expected} the state is not as before")));
         }
-        self.check_rams("after a refusal")
+        Ok(())
     }
 
     fn check_rams(&self, when: &str) -> Result<(), Mismatch> {
-        for (name, held, wanted) in [
-            ("PRG RAM", &self.ours.prg_ram, &self.shadow.prg_ram),
-            ("CHR RAM", &self.ours.chr_ram, &self.shadow.chr_ram),
-        ] {
-            if held != wanted {
-                let place = (0..RAM).find(|&place| held[place] != wanted[place]).unwrap_or(0);
-                let (held, wanted) = (held[place], wanted[place]);
-                let what = format!("{name} {when} holds {held:02X} at {place:04X} instead of {wanted:02X}");
-                return Err(Fault::Ram.found(what));
-            }
-        }
-        Ok(())
+        self.shadow.check(&self.ours.prg_ram, &self.ours.chr_ram, when, Fault::Ram)?;
+        self.paged.as_ref().map_or(Ok(()), |paged| paged.check_rams(&self.shadow, when))
     }
 }
 

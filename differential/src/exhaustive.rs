@@ -5,6 +5,7 @@ use std::ops::Range;
 
 use biekkarul::Digits;
 
+use crate::compare::Sides;
 use crate::events::{clock, read, write, Event, Kind, REFUSED};
 use crate::histories;
 use crate::images::{header, random_valid, Fill, Image};
@@ -88,11 +89,27 @@ fn few(address: u16, value: u8) -> bool {
     edge || matches!(value, 0 | 0x7f | 0xff)
 }
 
+/// Pages take all of their addresses alike: their ends are tried, and of the others one in sixteen, by turns.
+fn sides_at(address: u16) -> Sides {
+    let is_end = matches!(address % 1024, 0 | 1023);
+    sides_if(is_end || address % 16 == address / 1024 % 16)
+}
+
+fn sides_if(pages_too: bool) -> Sides {
+    if pages_too {
+        Sides::PagesToo
+    } else {
+        Sides::CallsAlone
+    }
+}
+
 /// Every byte written to each of these addresses, each time from the same state, with probes that show the effect.
 pub fn every_write(worker: &mut Worker, base: &Base, addresses: Range<u32>, depth: Depth) -> Outcome {
     for address in addresses {
+        worker.sides = sides_at(address as u16);
         every_byte(worker, base, address as u16, depth)?;
     }
+    worker.sides = Sides::PagesToo;
     Ok(())
 }
 
@@ -207,6 +224,8 @@ pub fn mmc3_registers(worker: &mut Worker, image: &Image, select: u8) -> Outcome
 
 /// MMC3: every state of the interrupt unit with this counter, each followed by each call that it answers to.
 pub fn mmc3_irq(worker: &mut Worker, image: &Image, counter: u8) -> Outcome {
+    // No page hangs on the interrupt unit.
+    worker.sides = sides_if(counter % 16 == 0);
     let trials = [clock(), write(0xc000, 0), write(0xc000, 3), write(0xc001, 0), write(0xe001, 0), write(0xe000, 0)];
     for trial in trials {
         let mut refused = Vec::new();
@@ -226,6 +245,7 @@ pub fn mmc3_irq(worker: &mut Worker, image: &Image, counter: u8) -> Outcome {
             worker.play_events(image)?;
         }
     }
+    worker.sides = Sides::PagesToo;
     Ok(())
 }
 

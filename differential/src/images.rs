@@ -39,6 +39,13 @@ impl Bytes {
     }
 }
 
+impl AsRef<[u8]> for Bytes {
+    #[inline]
+    fn as_ref(&self) -> &[u8] {
+        self.get()
+    }
+}
+
 /// What stands after the header.
 #[derive(Clone, Copy, PartialEq, Eq, Debug)]
 pub enum Fill {

@@ -1,5 +1,7 @@
-//! House mode of the exported library against the original Rust: the same calls on both, every answer compared.
+//! House mode of the exported library against the original Rust: the same calls on both, every answer compared. On our
+//! side they are made one by one, through the wrapper and through the map of pages.
 
+pub mod adapter;
 pub mod compare;
 pub mod events;
 pub mod exhaustive;
@@ -8,8 +10,10 @@ pub mod images;
 pub mod library;
 mod load_jobs;
 pub mod loads;
+pub mod mapped;
 pub mod original;
 pub mod ours;
+mod paged;
 pub mod random;
 pub mod recording;
 pub mod report;
@@ -20,3 +24,4 @@ pub mod shrink;
 pub mod tally;
 pub mod trace;
 pub mod worker;
+pub mod wrapped;

@@ -48,6 +48,27 @@ extern "C" {
         value: u8,
     ) -> u16;
     fn biekkarul_clock(state: *mut u8, state_length: usize) -> u16;
+    fn biekkarul_pages(
+        state: *const u8,
+        state_length: usize,
+        first: u8,
+        reads: *mut u32,
+        reads_length: usize,
+        writes: *mut u32,
+        writes_length: usize,
+    ) -> u16;
+    fn biekkarul_write_moved(
+        state: *mut u8,
+        state_length: usize,
+        image: *const u8,
+        image_length: usize,
+        prg_ram: *mut u8,
+        prg_ram_length: usize,
+        chr_ram: *mut u8,
+        chr_ram_length: usize,
+        address: u16,
+        value: u8,
+    ) -> u32;
 }
 
 pub fn header(image: &[u8], fields: &mut [u8]) -> Answer {
@@ -112,6 +133,50 @@ pub fn write(
             chr_ram.len(),
             address,
             value,
+        )
+    }
+}
+
+/// A write that also says, above its answer, which pages it may have moved.
+#[inline]
+pub fn write_moved(
+    state: &mut [u8],
+    image: &[u8],
+    prg_ram: &mut [u8],
+    chr_ram: &mut [u8],
+    address: u16,
+    value: u8,
+) -> u32 {
+    // SAFETY: four slices with their own lengths; the three mutable ones overlap nothing.
+    unsafe {
+        biekkarul_write_moved(
+            state.as_mut_ptr(),
+            state.len(),
+            image.as_ptr(),
+            image.len(),
+            prg_ram.as_mut_ptr(),
+            prg_ram.len(),
+            chr_ram.as_mut_ptr(),
+            chr_ram.len(),
+            address,
+            value,
+        )
+    }
+}
+
+/// The numbers of pages from `first` on, as many as there is room for.
+pub fn pages(state: &[u8], first: u8, reads: &mut [u32], writes: &mut [u32]) -> Answer {
+    // SAFETY: three slices with their own lengths, which count numbers as the library does; the two mutable ones
+    // overlap nothing.
+    unsafe {
+        biekkarul_pages(
+            state.as_ptr(),
+            state.len(),
+            first,
+            reads.as_mut_ptr(),
+            reads.len(),
+            writes.as_mut_ptr(),
+            writes.len(),
         )
     }
 }

@@ -3,13 +3,16 @@
 use std::path::Path;
 use std::{fs, io};
 
-use crate::events::describe;
+use crate::events::{describe, Event};
+use crate::images::Bytes;
+use crate::mapped::Mapped;
 use crate::original::Original;
 use crate::ours::Ours;
 use crate::sabotage::Sabotage;
 use crate::shrink::{shrink, Case};
 use crate::trace;
 use crate::worker::{check, Failure};
+use crate::wrapped::Wrapped;
 
 /// How often a case is tried while it is made small.
 const TRIES: usize = 20_000;
@@ -59,20 +62,43 @@ fn written(file: &Path, bytes: &[u8]) -> String {
     }
 }
 
-/// A line for each event up to the failing one, with both answers.
-fn event_lines(case: &Case, sabotage: Sabotage, failing: Option<usize>) -> String {
-    let mut ours = Ours::new(sabotage);
-    let accepted = ours.load(&case.image.bytes) == 0;
-    let mut original = match Original::load(&case.image.bytes) {
-        Ok(original) if accepted => original,
-        _ => return String::new(),
-    };
-    let mut text = String::new();
-    let last = failing.unwrap_or(case.events.len());
-    for (number, event) in case.events.iter().enumerate().take(last + 1) {
-        let (a, b) = (ours.call(event), original.call(event));
-        let (a, b) = (describe(event.kind, a), describe(event.kind, b));
-        text += &format!("{number:4} {:16} ours: {a:12} the original: {b}\n", event.to_string());
+/// A board on every side.
+struct All {
+    ours: Ours,
+    wrapped: Wrapped,
+    mapped: Mapped,
+    original: Original,
+}
+
+impl All {
+    fn load(image: &Bytes, sabotage: Sabotage) -> Option<All> {
+        let mut ours = Ours::new(sabotage);
+        let accepted = ours.load(image) == 0;
+        let (wrapped, mapped) = (Wrapped::load(image).ok()?, Mapped::load(image, sabotage).ok()?);
+        let original = Original::load(image).ok()?;
+        accepted.then(|| All { ours, wrapped, mapped, original })
     }
-    text
+
+    /// Every answer to an event; those through pages only where they are others than the call's.
+    fn line(&mut self, number: usize, event: &Event) -> String {
+        let ours = self.ours.call(event);
+        let told = |answer| describe(event.kind, answer);
+        let mut line = format!("{number:4} {:16} ours: {:12}", event.to_string(), told(ours));
+        for (side, answer) in [("the wrapper", self.wrapped.call(event)), ("the map", self.mapped.call(event))] {
+            if answer != ours {
+                line += &format!(" {side}: {:12}", told(answer));
+            }
+        }
+        line + &format!(" the original: {}\n", told(self.original.call(event)))
+    }
+}
+
+/// A line for each event up to the failing one.
+fn event_lines(case: &Case, sabotage: Sabotage, failing: Option<usize>) -> String {
+    let last = failing.unwrap_or(case.events.len());
+    let events = case.events.iter().enumerate().take(last + 1);
+    match All::load(&case.image.bytes, sabotage) {
+        None => String::new(),
+        Some(mut all) => events.map(|(number, event)| all.line(number, event)).collect(),
+    }
 }

@@ -12,15 +12,21 @@ use crate::images::{header, random_valid, Fill, Image, MAPPERS};
 use crate::load_jobs;
 use crate::random::Random;
 use crate::sabotage::Sabotage;
-use crate::tally::{grouped, Tally};
+use crate::tally::{grouped, Floor, Tally};
 use crate::worker::{Failure, Job, Outcome, Worker};
 
 const GATE_SEED: u64 = 4;
 const GATE_ROUNDS: u64 = 24_000;
 
-/// What the gate's run has to compare at least, in all and on each board.
-const GATE_CALLS: u64 = 20_000_000;
-const GATE_CALLS_ON_EACH: u64 = 4_000_000;
+/// What the gate's run has to compare at least.
+const GATE: Floor = Floor {
+    in_all: 20_000_000,
+    on_each: 4_000_000,
+    paged: 20_000_000,
+    paged_on_each: 4_000_000,
+    paged_refused: 1_000,
+    both_ways: 1_000_000,
+};
 
 const HISTORIES_PER_IMAGE: usize = 8;
 
@@ -171,7 +177,7 @@ impl Summary {
         let (done, all) = self.jobs;
         match plan {
             Plan::Gate if done < all => Some(format!("exhaustive jobs {done} of {all}")),
-            Plan::Gate => self.tally.shortfall(GATE_CALLS, GATE_CALLS_ON_EACH),
+            Plan::Gate => self.tally.shortfall(&GATE),
             _ => None,
         }
     }

@@ -1,13 +1,17 @@
 //! Faults that the harness puts into our side's answers to prove that the comparison finds them.
-//! Nothing here touches the library: an answer or a buffer is altered after the call.
+//! Nothing here touches the library: an answer, a buffer or a map of pages is altered after the call.
 
 use biekkarul::{Digit, Digits};
 
 use crate::events::{Answer, PANICKED, REFUSED};
 use crate::library::STATE;
+use crate::mapped::{CHR_RAM, IMAGE, NOWHERE, PAGES, PRG_RAM, REFUSAL};
 
 /// Any place in PRG RAM.
 const PRG_RAM_MARK: usize = 5_000;
+
+/// The page before the last of 8000-BFFF.
+const PAGE_MARK: usize = 46;
 
 #[derive(Clone, Copy, PartialEq, Eq, Debug)]
 pub enum Sabotage {
@@ -36,9 +40,21 @@ pub enum Sabotage {
     ShortImage,
     /// The header reader answers byte 15 as 0.
     HeaderByte,
+    /// Pages 32 to 63 are not made anew after a write that moves them.
+    StalePrgPages,
+    /// Pages 0 to 7 are not.
+    StaleChrPages,
+    /// A page stands where the next one is.
+    PageOneOff,
+    /// A page that is read from a RAM is taken for one of the image.
+    RamPageAsRom,
+    /// A byte that is stored through a page of a RAM goes nowhere.
+    RamPageAsNowhere,
+    /// A refused page is taken for one that is nowhere.
+    RefusedPageServed,
 }
 
-pub const ALL: [(&str, Sabotage); 12] = [
+pub const ALL: [(&str, Sabotage); 18] = [
     ("read-byte", Sabotage::ReadByte),
     ("past-end", Sabotage::PastEnd),
     ("refuses", Sabotage::Refuses),
@@ -51,6 +67,12 @@ pub const ALL: [(&str, Sabotage); 12] = [
     ("stray-store", Sabotage::StrayStore),
     ("short-image", Sabotage::ShortImage),
     ("header-byte", Sabotage::HeaderByte),
+    ("stale-prg-pages", Sabotage::StalePrgPages),
+    ("stale-chr-pages", Sabotage::StaleChrPages),
+    ("page-one-off", Sabotage::PageOneOff),
+    ("ram-page-as-rom", Sabotage::RamPageAsRom),
+    ("ram-page-as-nowhere", Sabotage::RamPageAsNowhere),
+    ("refused-page-served", Sabotage::RefusedPageServed),
 ];
 
 impl Sabotage {
@@ -105,6 +127,32 @@ impl Sabotage {
             return 0;
         }
         answer
+    }
+
+    /// The pages of reads, as they have just been told.
+    pub fn filled(self, reads: &mut [u32; PAGES]) {
+        if self == Sabotage::PageOneOff {
+            reads[PAGE_MARK] = reads[PAGE_MARK + 1];
+        }
+    }
+
+    /// What a page that is read is taken for.
+    #[inline]
+    pub fn read_kind(self, kind: u32) -> u32 {
+        match (self, kind) {
+            (Sabotage::RamPageAsRom, PRG_RAM | CHR_RAM) => IMAGE,
+            (Sabotage::RefusedPageServed, REFUSAL) => NOWHERE,
+            _ => kind,
+        }
+    }
+
+    /// What a page that is written is taken for.
+    #[inline]
+    pub fn write_kind(self, kind: u32) -> u32 {
+        match (self, kind) {
+            (Sabotage::RamPageAsNowhere, PRG_RAM | CHR_RAM) | (Sabotage::RefusedPageServed, REFUSAL) => NOWHERE,
+            _ => kind,
+        }
     }
 
     pub fn header(self, fields: &mut [u8]) {

@@ -1,6 +1,6 @@
 //! A worker plays histories on both sides, and tells the case on which they part.
 
-use crate::compare::{Mismatch, Pair};
+use crate::compare::{Mismatch, Pair, Sides};
 use crate::events::Event;
 use crate::images::Image;
 use crate::loads;
@@ -26,16 +26,19 @@ pub struct Worker {
     pub events: Vec<Event>,
     pub tally: Tally,
     pub sabotage: Sabotage,
+    /// On which sides of ours the next histories are played.
+    pub sides: Sides,
 }
 
 impl Worker {
     pub fn new(sabotage: Sabotage) -> Worker {
-        Worker { pair: Pair::new(sabotage), events: Vec::new(), tally: Tally::default(), sabotage }
+        let (pair, tally) = (Pair::new(sabotage), Tally::default());
+        Worker { pair, events: Vec::new(), tally, sabotage, sides: Sides::PagesToo }
     }
 
     /// Plays `self.events` on a new board of this image; answers how many were played.
     pub fn play_events(&mut self, image: &Image) -> Result<usize, Box<Failure>> {
-        self.pair.play(image, &self.events, &mut self.tally).map_err(|mismatch| {
+        self.pair.play(image, &self.events, self.sides, &mut self.tally).map_err(|mismatch| {
             let mut events = self.events.clone();
             if let Some(last) = mismatch.event {
                 events.truncate(last + 1);
@@ -58,6 +61,6 @@ pub fn check(case: &Case, sabotage: Sabotage) -> Option<Mismatch> {
         return Some(mismatch);
     }
     let accepted = loads::by_the_paper(case.image.bytes.get()) == 0;
-    let played = accepted.then(|| Pair::new(sabotage).play(&case.image, &case.events, &mut tally));
+    let played = accepted.then(|| Pair::new(sabotage).play(&case.image, &case.events, Sides::PagesToo, &mut tally));
     played.and_then(Result::err)
 }

@@ -6,49 +6,15 @@ use std::rc::Rc;
 
 use biekkarul::bus::BusBoard;
 use biekkarul::{Board, Mode};
+use differential::adapter::Proved;
 use differential::compare::refusal;
 use differential::events::{Event, Kind, PANICKED};
 use differential::histories;
 use differential::images::{random_valid, Image, MAPPERS};
 use differential::original::{silence_panics, Original};
 use differential::random::Random;
-use mos6502::memory::Bus;
-use nes::cartridge::Mirroring;
-use nes::mappers::Mapper;
 
 const HISTORIES: u64 = 1_000;
-
-/// The adapter, as the original's bus takes it.
-struct Proved(BusBoard);
-
-impl Bus for Proved {
-    fn read8(&self, address: u16) -> u8 {
-        self.0.read8(address)
-    }
-
-    fn write8(&mut self, val: u8, address: u16) {
-        self.0.write8(val, address)
-    }
-}
-
-impl Mapper for Proved {
-    fn irq(&mut self) -> bool {
-        self.0.irq()
-    }
-
-    fn on_runtime_mirroring(&mut self, mut callback: Box<dyn FnMut(&Mirroring)>) {
-        self.0.on_runtime_mirroring(Box::new(move |mirroring| callback(&theirs(*mirroring))));
-    }
-}
-
-fn theirs(mirroring: biekkarul::Mirroring) -> Mirroring {
-    match mirroring {
-        biekkarul::Mirroring::Horizontal => Mirroring::Horizontal,
-        biekkarul::Mirroring::Vertical => Mirroring::Vertical,
-        biekkarul::Mirroring::SingleScreenUpper => Mirroring::SingleScreenUpper,
-        biekkarul::Mirroring::SingleScreenLower => Mirroring::SingleScreenLower,
-    }
-}
 
 /// The state and both RAMs.
 fn kept(proved: &RefCell<Proved>) -> Vec<u8> {

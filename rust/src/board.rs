@@ -8,6 +8,7 @@ use crate::digits::{Digit, Digits};
 use crate::ffi;
 use crate::mirroring::Mirroring;
 use crate::mode::Mode;
+use crate::pages::{self, Memory, Moved, Page, PageMap, PAGES};
 use crate::refusal::{accepted, foreign, Refusal};
 use crate::registers::Registers;
 use crate::snapshot::{image_hash, Snapshot, SnapshotError};
@@ -42,14 +43,20 @@ pub const STATE_LENGTH: usize = 40;
 /// Every call that is refused leaves the board and both RAMs as they were. A clone goes on from the same
 /// point. Boards on several threads do not meet: the library has no state of its own.
 ///
+/// A board keeps where the bytes of each 1 KB of its addresses are ([`read_pages`](Board::read_pages)), as the
+/// library said it: most reads and stores then make no call. The answers are the same with or without.
+///
 /// Two boards are equal when their images, registers, RAMs and screens are, however each holds its image:
 /// then the same calls get the same answers from both.
 #[derive(Clone)]
 pub struct Board<I = Vec<u8>> {
     image: I,
+    // What the load found, since an image of another length is refused at each read and write.
+    image_length: usize,
     state: [u8; STATE_LENGTH],
-    prg_ram: Box<[u8; RAM_LENGTH]>,
-    chr_ram: Box<[u8; RAM_LENGTH]>,
+    memory: Memory,
+    // No part of what a board is: it follows from the state.
+    pages: PageMap,
     // Kept beside the state: in house mode that holds the header's mirroring only.
     last_notice: Option<Mirroring>,
 }
@@ -71,21 +78,26 @@ impl<I: AsRef<[u8]>> Board<I> {
     /// Where the linked library is of another version than the wrapper; the build refuses such a one, so
     /// it was linked by other means.
     pub fn load(image: I, mode: Mode) -> Result<Self, Refusal> {
-        let mut board = Board {
-            image,
-            state: [0; STATE_LENGTH],
-            prg_ram: Box::new([0; RAM_LENGTH]),
-            chr_ram: Box::new([0; RAM_LENGTH]),
-            last_notice: None,
-        };
+        let mut state = [0; STATE_LENGTH];
+        let mut memory = Memory::cleared();
+        let (prg_ram, chr_ram) = memory.rams_mut();
+        let bytes = image.as_ref();
+        let image_length = bytes.len();
         accepted(ffi::load(
-            board.image.as_ref(),
+            bytes,
             mode.number(),
-            &mut board.state,
-            &mut board.prg_ram[..],
-            &mut board.chr_ram[..],
+            &mut state,
+            prg_ram,
+            chr_ram,
         ))?;
-        Ok(board)
+        Ok(Board {
+            image,
+            image_length,
+            state,
+            memory,
+            pages: PageMap::unknown(),
+            last_notice: None,
+        })
     }
 
     /// Makes a board of the bytes that [`state`](Board::state), [`prg_ram`](Board::prg_ram) and
@@ -133,9 +145,7 @@ impl<I: AsRef<[u8]>> Board<I> {
         if !kept.same_cartridge(&board.digits()) {
             return Err(Refusal::StateOutOfRange);
         }
-        board.state = state;
-        *board.prg_ram = prg_ram;
-        *board.chr_ram = chr_ram;
+        board.replace(state, &prg_ram, &chr_ram);
         board.last_notice = kept.turned_to();
         Ok(board)
     }
@@ -148,8 +158,8 @@ impl<I: AsRef<[u8]>> Board<I> {
             mode: self.mode(),
             last_notice: self.last_notice,
             state: self.state,
-            prg_ram: self.prg_ram.clone(),
-            chr_ram: self.chr_ram.clone(),
+            prg_ram: Box::new(*self.prg_ram()),
+            chr_ram: Box::new(*self.chr_ram()),
         }
     }
 
@@ -197,9 +207,7 @@ impl<I: AsRef<[u8]>> Board<I> {
         if !snapshot.digits().same_cartridge(&self.digits()) {
             return Err(SnapshotError::ImpossibleState);
         }
-        self.state = snapshot.state;
-        *self.prg_ram = *snapshot.prg_ram;
-        *self.chr_ram = *snapshot.chr_ram;
+        self.replace(snapshot.state, &snapshot.prg_ram, &snapshot.chr_ram);
         self.last_notice = snapshot.last_notice;
         Ok(self.screens())
     }
@@ -231,13 +239,18 @@ impl<I: AsRef<[u8]>> Board<I> {
         let mode = self.mode().number();
         // A load clears both RAMs that it is lent, so it is lent another one for PRG RAM.
         let mut cleared = [0; RAM_LENGTH];
+        let (_, chr_ram) = self.memory.rams_mut();
+        let bytes = self.image.as_ref();
+        let image_length = bytes.len();
         accepted(ffi::load(
-            self.image.as_ref(),
+            bytes,
             mode,
             &mut self.state,
             &mut cleared,
-            &mut self.chr_ram[..],
+            chr_ram,
         ))?;
+        self.image_length = image_length;
+        self.pages = PageMap::unknown();
         self.last_notice = None;
         Ok(self.screens())
     }
@@ -249,11 +262,41 @@ impl<I: AsRef<[u8]>> Board<I> {
     /// In house mode refused with 11 or 13 where potatis panics.
     #[inline]
     pub fn read(&self, address: u16) -> Result<u8, Refusal> {
+        match self.byte_at(address) {
+            Some(byte) => Ok(byte),
+            None => self.read_anew(address),
+        }
+    }
+
+    /// The byte at an address, where its page says where it is.
+    #[inline]
+    fn byte_at(&self, address: u16) -> Option<u8> {
+        let image = self.image.as_ref();
+        if image.len() != self.image_length {
+            return None;
+        }
+        self.pages.read(image, &self.memory, address)
+    }
+
+    /// The pages of the address are learnt, or else the call is made, which says the refusal.
+    #[cold]
+    #[inline(never)]
+    fn read_anew(&self, address: u16) -> Result<u8, Refusal> {
+        if self.pages.learn_reads(&self.state, address) {
+            if let Some(byte) = self.byte_at(address) {
+                return Ok(byte);
+            }
+        }
+        self.read_by_call(address)
+    }
+
+    /// The exported read, which judges all that it is lent.
+    pub(crate) fn read_by_call(&self, address: u16) -> Result<u8, Refusal> {
         accepted(ffi::read(
             &self.state,
             self.image.as_ref(),
-            &self.prg_ram[..],
-            &self.chr_ram[..],
+            self.prg_ram(),
+            self.chr_ram(),
             address,
         ))
     }
@@ -268,19 +311,75 @@ impl<I: AsRef<[u8]>> Board<I> {
     /// In house mode refused with 12, 13 or 14 where potatis panics.
     #[inline]
     pub fn write(&mut self, address: u16, value: u8) -> Result<Option<Mirroring>, Refusal> {
-        let answer = accepted(ffi::write(
+        if self.try_store(address, value) {
+            return Ok(None);
+        }
+        self.write_anew(address, value).map(|(notice, _)| notice)
+    }
+
+    /// Writes a byte as [`write`](Board::write) does, and also says which pages it may have moved: for one
+    /// who keeps [`read_pages`](Board::read_pages) and [`write_pages`](Board::write_pages).
+    ///
+    /// # Errors
+    ///
+    /// Those of [`write`](Board::write); a refused write has moved nothing.
+    ///
+    /// ```
+    /// use biekkarul::{Board, Mode, Moved, Refusal};
+    ///
+    /// # let mut image = vec![0x4E, 0x45, 0x53, 0x1A, 4, 0, 0x20, 0];
+    /// # image.resize(16 + 4 * 16_384, 0);
+    /// let mut board = Board::load(image, Mode::House)?; // UxROM
+    /// let prg = Moved { chr: false, prg: true };
+    /// assert_eq!(board.write_moved(0x8000, 2)?, (None, prg));
+    /// assert_eq!(board.write_moved(0x8000, 2)?, (None, Moved::default()));
+    /// # Ok::<(), Refusal>(())
+    /// ```
+    #[inline]
+    pub fn write_moved(
+        &mut self,
+        address: u16,
+        value: u8,
+    ) -> Result<(Option<Mirroring>, Moved), Refusal> {
+        if self.try_store(address, value) {
+            return Ok((None, Moved::default()));
+        }
+        self.write_anew(address, value)
+    }
+
+    /// Stores a byte where its page says to; false where it has not.
+    #[inline]
+    pub(crate) fn try_store(&mut self, address: u16, value: u8) -> bool {
+        self.image.as_ref().len() == self.image_length
+            && self.pages.try_store(&mut self.memory, address, value)
+    }
+
+    /// The pages of the address are learnt, or else the call is made.
+    #[inline(never)]
+    pub(crate) fn write_anew(
+        &mut self,
+        address: u16,
+        value: u8,
+    ) -> Result<(Option<Mirroring>, Moved), Refusal> {
+        if self.pages.learn_writes(&self.state, address) && self.try_store(address, value) {
+            return Ok((None, Moved::default()));
+        }
+        let (prg_ram, chr_ram) = self.memory.rams_mut();
+        let answer = ffi::write_moved(
             &mut self.state,
             self.image.as_ref(),
-            &mut self.prg_ram[..],
-            &mut self.chr_ram[..],
+            prg_ram,
+            chr_ram,
             address,
             value,
-        ))?;
-        let notice = notice(answer);
+        );
+        let moved = Moved::of(answer);
+        self.pages.forget(moved);
+        let notice = notice(accepted(answer as u16)?);
         if notice.is_some() {
             self.last_notice = notice;
         }
-        Ok(notice)
+        Ok((notice, moved))
     }
 
     /// The image, as it was given to the load.
@@ -299,6 +398,72 @@ impl<I> Board<I> {
     #[inline]
     pub fn clock(&mut self) -> Result<bool, Refusal> {
         accepted(ffi::clock(&mut self.state)).map(yes)
+    }
+
+    /// Where each of the 64 pages of 1 KB is read from; page 0 begins at address 0000.
+    ///
+    /// It holds until a write moves pages, as [`write_moved`](Board::write_moved) says, or a
+    /// [`restore`](Board::restore) or [`power_cycle`](Board::power_cycle) comes. No clock moves a page.
+    ///
+    /// ```
+    /// use biekkarul::{Board, Mode, Page, Refusal};
+    ///
+    /// # let mut image = vec![0x4E, 0x45, 0x53, 0x1A, 4, 0, 0x20, 0];
+    /// # image.resize(16 + 4 * 16_384, 0);
+    /// # image[16 + 2 * 16_384 + 5] = 0x2A;
+    /// let mut board = Board::load(&image[..], Mode::House)?; // UxROM, four PRG blocks, CHR RAM
+    /// let before = board.read_pages();
+    /// assert_eq!((before[0], before[8]), (Page::ChrRam(0), Page::Nowhere));
+    /// assert_eq!(before[32], Page::Image(16)); // 8000: the first block, behind the header
+    ///
+    /// board.write(0x8000, 2)?;
+    /// let after = board.read_pages();
+    /// assert_eq!(after[32], Page::Image(16 + 2 * 16_384));
+    /// assert_eq!((&after[..32], &after[48..]), (&before[..32], &before[48..]));
+    /// assert_eq!(board.read(0x8005)?, image[16 + 2 * 16_384 + 5]);
+    ///
+    /// board.write(0x8000, 4)?; // there is no such block
+    /// assert_eq!(board.read_pages()[32], Page::Refused(Refusal::BankPastData));
+    /// # Ok::<(), Refusal>(())
+    /// ```
+    #[must_use]
+    pub fn read_pages(&self) -> [Page; PAGES] {
+        self.pages_of_state().0
+    }
+
+    /// Where a write to each of the 64 pages goes. It holds as long as [`read_pages`](Board::read_pages).
+    ///
+    /// ```
+    /// use biekkarul::{Board, Mode, Page, Refusal};
+    ///
+    /// # let mut image = vec![0x4E, 0x45, 0x53, 0x1A, 1, 1, 0x11, 0];
+    /// # image.resize(16 + 16_384 + 8_192, 0);
+    /// let board = Board::load(image, Mode::House)?; // MMC1 with CHR ROM
+    /// let pages = board.write_pages();
+    /// assert_eq!(pages[0], Page::Refused(Refusal::NoChrRam));
+    /// assert_eq!((pages[8], pages[24], pages[32]), (Page::Nowhere, Page::PrgRam(0), Page::Call));
+    /// # Ok::<(), Refusal>(())
+    /// ```
+    #[must_use]
+    pub fn write_pages(&self) -> [Page; PAGES] {
+        self.pages_of_state().1
+    }
+
+    fn pages_of_state(&self) -> ([Page; PAGES], [Page; PAGES]) {
+        pages::all(&self.state).expect("the library takes every state that it has made")
+    }
+
+    /// Another state of the same cartridge, and what its RAMs hold.
+    fn replace(
+        &mut self,
+        state: [u8; STATE_LENGTH],
+        prg_ram: &[u8; RAM_LENGTH],
+        chr_ram: &[u8; RAM_LENGTH],
+    ) {
+        self.state = state;
+        self.pages = PageMap::unknown();
+        *self.prg_ram_mut() = *prg_ram;
+        *self.chr_ram_mut() = *chr_ram;
     }
 
     /// What the board's registers hold, and what it knows of its cartridge, as numbers.
@@ -378,25 +543,25 @@ impl<I> Board<I> {
     /// PRG RAM: what a game saves.
     #[must_use]
     pub fn prg_ram(&self) -> &[u8; RAM_LENGTH] {
-        &self.prg_ram
+        self.memory.prg_ram()
     }
 
     /// PRG RAM, to put a saved game back. Any bytes will do.
     #[must_use]
     pub fn prg_ram_mut(&mut self) -> &mut [u8; RAM_LENGTH] {
-        &mut self.prg_ram
+        self.memory.rams_mut().0
     }
 
     /// CHR RAM; not used where the cartridge has CHR ROM.
     #[must_use]
     pub fn chr_ram(&self) -> &[u8; RAM_LENGTH] {
-        &self.chr_ram
+        self.memory.chr_ram()
     }
 
     /// CHR RAM, to put tiles into it. Any bytes will do.
     #[must_use]
     pub fn chr_ram_mut(&mut self) -> &mut [u8; RAM_LENGTH] {
-        &mut self.chr_ram
+        self.memory.rams_mut().1
     }
 
     /// The state as docs/ABI.md lays it out. To keep a board, [`snapshot`](Board::snapshot) has it all.
@@ -416,8 +581,8 @@ impl<I: AsRef<[u8]>, J: AsRef<[u8]>> PartialEq<Board<J>> for Board<I> {
     fn eq(&self, other: &Board<J>) -> bool {
         self.state == other.state
             && self.screens() == other.screens()
-            && self.prg_ram == other.prg_ram
-            && self.chr_ram == other.chr_ram
+            && self.prg_ram() == other.prg_ram()
+            && self.chr_ram() == other.chr_ram()
             && self.image() == other.image()
     }
 }
@@ -462,6 +627,8 @@ fn yes(answer: u8) -> bool {
 #[cfg(test)]
 mod tests {
     use super::*;
+    use alloc::sync::Arc;
+    use core::panic::{RefUnwindSafe, UnwindSafe};
 
     #[test]
     fn a_notice_is_its_letter() {
@@ -485,8 +652,31 @@ mod tests {
 
     #[test]
     fn boards_may_go_to_other_threads() {
-        fn is_send_and_sync<T: Send + Sync>() {}
+        fn is_send_and_sync<T: Send + Sync + UnwindSafe + RefUnwindSafe>() {}
         is_send_and_sync::<Board>();
         is_send_and_sync::<Board<&[u8]>>();
+        is_send_and_sync::<Board<Arc<[u8]>>>();
+    }
+
+    /// Else every other test would pass without a page.
+    #[test]
+    fn the_second_call_goes_through_the_page() {
+        let mut image = b"NES\x1A\x02\x00\x10\0\0\0\0\0\0\0\0\0".to_vec(); // MMC1, CHR RAM
+        image.resize(16 + 2 * 16_384, 0xEA);
+        for mode in [Mode::House, Mode::Board] {
+            let mut board = Board::load(&image[..], mode).unwrap();
+            for address in [0x0000, 0x6000, 0x8000] {
+                assert_eq!(board.byte_at(address), None);
+                board.read(address).unwrap();
+                assert!(board.byte_at(address).is_some());
+            }
+            for address in [0x0000, 0x6000] {
+                assert!(!board.try_store(address, 1));
+                board.write(address, 1).unwrap();
+                assert!(board.try_store(address, 1));
+            }
+            board.write(0x8000, 0).unwrap();
+            assert!(!board.try_store(0x8000, 0));
+        }
     }
 }

@@ -89,8 +89,8 @@
 //! # }
 //! ```
 //!
-//! The example stands on its own, with traits of the same shape; `differential/tests/bus.rs` in the
-//! repository has the same lines over potatis's own files and plays histories through them.
+//! The example stands on its own, with traits of the same shape; `differential/src/adapter.rs` in
+//! the repository has the same lines over potatis's own files, and its tests play histories through them.
 //!
 //! # Where potatis panics
 //!
@@ -212,9 +212,17 @@ impl<I: AsRef<[u8]>, C: FnMut(&Mirroring)> BusBoard<I, C> {
         if self.is_over() {
             return;
         }
-        match self.board.write(address, val) {
-            Ok(None) => (),
-            Ok(Some(mirroring)) => self.tell(mirroring),
+        if !self.board.try_store(address, val) {
+            self.write_anew(val, address);
+        }
+    }
+
+    /// Apart from a byte that is only stored, which then needs no stack.
+    #[inline(never)]
+    fn write_anew(&mut self, val: u8, address: u16) {
+        match self.board.write_anew(address, val) {
+            Ok((None, _)) => (),
+            Ok((Some(mirroring), _)) => self.tell(mirroring),
             Err(refusal) => self.end(refusal),
         }
     }
@@ -299,8 +307,13 @@ impl<I: AsRef<[u8]>, C: FnMut(&Mirroring)> BusBoard<I, C> {
         self.board
     }
 
+    #[inline]
     fn is_over(&self) -> bool {
-        self.refusal.get().is_some()
+        let is_over = self.refusal.get().is_some();
+        if is_over {
+            seldom();
+        }
+        is_over
     }
 
     #[cold]
@@ -323,3 +336,8 @@ impl<I, C> fmt::Debug for BusBoard<I, C> {
             .finish_non_exhaustive()
     }
 }
+
+/// Says to the compiler that the way to here is not the usual one.
+#[cold]
+#[inline]
+fn seldom() {}

@@ -15,7 +15,7 @@
 
 /// The version of the calls that are declared here: `BIEKKARUL_VERSION` of the header, and `VERSION` of build.rs,
 /// which refuses a library of another one.
-pub(crate) const VERSION: u32 = 1;
+pub(crate) const VERSION: u32 = 2;
 
 extern "C" {
     fn biekkarul_header(
@@ -49,6 +49,7 @@ extern "C" {
         address: u16,
     ) -> u16;
 
+    #[cfg(test)]
     fn biekkarul_write(
         state: *mut u8,
         state_length: usize,
@@ -70,6 +71,29 @@ extern "C" {
         digits: *mut u64,
         digits_length: usize,
     ) -> u16;
+
+    fn biekkarul_pages(
+        state: *const u8,
+        state_length: usize,
+        first: u8,
+        reads: *mut u32,
+        reads_length: usize,
+        writes: *mut u32,
+        writes_length: usize,
+    ) -> u16;
+
+    fn biekkarul_write_moved(
+        state: *mut u8,
+        state_length: usize,
+        image: *const u8,
+        image_length: usize,
+        prg_ram: *mut u8,
+        prg_ram_length: usize,
+        chr_ram: *mut u8,
+        chr_ram_length: usize,
+        address: u16,
+        value: u8,
+    ) -> u32;
 
     fn biekkarul_version() -> u32;
 }
@@ -155,7 +179,8 @@ pub(crate) fn read(
     }
 }
 
-#[inline]
+/// The plain write: a board makes the other one, which the tests hold to this one.
+#[cfg(test)]
 pub(crate) fn write(
     state: &mut [u8],
     image: &[u8],
@@ -168,6 +193,33 @@ pub(crate) fn write(
     // overlaps with another or with `image`. Every state, `address` and `value` is taken.
     unsafe {
         biekkarul_write(
+            state.as_mut_ptr(),
+            state.len(),
+            image.as_ptr(),
+            image.len(),
+            prg_ram.as_mut_ptr(),
+            prg_ram.len(),
+            chr_ram.as_mut_ptr(),
+            chr_ram.len(),
+            address,
+            value,
+        )
+    }
+}
+
+#[inline]
+pub(crate) fn write_moved(
+    state: &mut [u8],
+    image: &[u8],
+    prg_ram: &mut [u8],
+    chr_ram: &mut [u8],
+    address: u16,
+    value: u8,
+) -> u32 {
+    // SAFETY: all four pairs are whole slices; the three that are written are exclusive, so neither
+    // overlaps with another or with `image`. Every state, `address` and `value` is taken.
+    unsafe {
+        biekkarul_write_moved(
             state.as_mut_ptr(),
             state.len(),
             image.as_ptr(),
@@ -198,6 +250,24 @@ pub(crate) fn digits(state: &[u8], digits: &mut [u64]) -> u16 {
             state.len(),
             digits.as_mut_ptr(),
             digits.len(),
+        )
+    }
+}
+
+#[inline]
+pub(crate) fn pages(state: &[u8], first: u8, reads: &mut [u32], writes: &mut [u32]) -> u16 {
+    // SAFETY: all three pairs are whole slices; `reads` and `writes`, whose lengths count numbers as the
+    // library does, are exclusive, so neither overlaps with the other or with `state`. Every state, `first`
+    // and length is taken.
+    unsafe {
+        biekkarul_pages(
+            state.as_ptr(),
+            state.len(),
+            first,
+            reads.as_mut_ptr(),
+            reads.len(),
+            writes.as_mut_ptr(),
+            writes.len(),
         )
     }
 }

@@ -28,6 +28,8 @@
 //! - [`Refusal`] says why a call was refused. A refused call has changed nothing.
 //! - [`Snapshot`] keeps a board as bytes and knows its image and its mode again.
 //! - [`Registers`] are what a board's registers hold; [`Digits`] are all that a state holds, as numbers.
+//! - [`Page`] says where the bytes of 1 KB of addresses are; a board reads and stores through its pages, and
+//!   shows them.
 //! - [`bus`] has the same board in the shape of the emulator's bus.
 //! - [`trace`] writes, reads and plays recorded traces.
 //! - [`Header`] is the header alone.
@@ -48,6 +50,7 @@ mod ffi;
 mod header;
 mod mirroring;
 mod mode;
+mod pages;
 mod refusal;
 mod registers;
 mod snapshot;
@@ -58,6 +61,7 @@ pub use digits::{Digit, Digits, DIGITS};
 pub use header::Header;
 pub use mirroring::Mirroring;
 pub use mode::{Mode, UnknownMode};
+pub use pages::{Moved, Page, PAGES, PAGE_LENGTH};
 pub use refusal::Refusal;
 pub use registers::{Mmc1Registers, Mmc3Registers, Registers};
 pub use snapshot::{image_hash, Snapshot, SnapshotError};

@@ -172,12 +172,12 @@ pub(crate) fn accepted(answer: u16) -> Result<u8, Refusal> {
 
 #[cold]
 fn refused(answer: u16) -> Refusal {
-    Refusal::from_number(answer - 256).unwrap_or_else(|| foreign(answer))
+    Refusal::from_number(answer - 256).unwrap_or_else(|| foreign(answer.into()))
 }
 
 /// The library's promise has no such answer: another library than this crate's was linked.
 #[cold]
-pub(crate) fn foreign(answer: u16) -> ! {
+pub(crate) fn foreign(answer: u32) -> ! {
     panic!(
         "the linked library answered {answer}, which docs/ABI.md does not have: it is another one"
     )

@@ -578,6 +578,7 @@ static void check_names(void) {
     expect("a refusal", BIEKKARUL_IS_REFUSED(256), 1);
     expect("an answer", BIEKKARUL_IS_REFUSED(255), 0);
     expect("a refusal's number", BIEKKARUL_REFUSAL(256 + 14), 14);
+    expect("an answer below what moved", BIEKKARUL_IS_REFUSED(BIEKKARUL_CHR_MOVED | BIEKKARUL_PRG_MOVED), 0);
     expect("the library's version", biekkarul_version(), BIEKKARUL_VERSION);
 }
 

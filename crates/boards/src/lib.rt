@@ -363,7 +363,7 @@ impl Board {
         self.in_range() & (length == cart.length)
     }
 
-    fn read_landing(self, address: u16) -> Landing
+    pub fn read_landing(self, address: u16) -> Landing
         ensures { λ r. ⌜ r ≡ readLanding self address ⌝ }
     {
         let cart = self.cart;
@@ -382,7 +382,7 @@ impl Board {
         }
     }
 
-    fn write_landing(self, address: u16) -> Landing
+    pub fn write_landing(self, address: u16) -> Landing
         ensures { λ r. ⌜ r ≡ writeLanding self address ⌝ }
     {
         let cart = self.cart;

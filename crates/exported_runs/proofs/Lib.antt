@@ -1,2 +1,3 @@
 mod Typed
 pub mod Runs
+pub mod Pages

@@ -94,7 +94,7 @@ module _ (b : Board) (t : OfItsTypes b) (h : inRange b ≡ true) where
   reads-as image prg chr a =
       ap₂ (λ (x : Bool) (y : Board). readNumber (readIf x y image prg chr a)) (for-image (length image)) (there-and-back b t h)
 
-  landed : (image prg chr : List ℕ) (a : ℕ) → writing (encoded b) image prg chr a ≡ boards.landing b image prg chr a
+  pub landed : (image prg chr : List ℕ) (a : ℕ) → writing (encoded b) image prg chr a ≡ boards.landing b image prg chr a
   unfolding boards.landing
   landed image prg chr a =
       ap₂ (λ (x : Bool) (y : Board). boards.landingIf x y prg chr a) (for-image (length image)) (there-and-back b t h)

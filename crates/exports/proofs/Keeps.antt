@@ -1,6 +1,6 @@
 -- What is kept of a clock or a write is its board's words, though not all are packed anew. Assumes nothing.
-use mathlib.Core.Path.{_≡_, refl, ap}
-use mathlib.Core.Bool.{Bool, true, false, cond}
+use mathlib.Core.Path.{_≡_, refl, ap, _∙_}
+use mathlib.Core.Bool.{Bool, true, false, cond, _&&_}
 use mathlib.Core.List.{List}
 use native.Mathlib.Omega.{arith}
 use borrow.Author.Tests.{le-ltb}
@@ -12,19 +12,33 @@ use Rattle.common.specs.Answers.{refusalNumber}
 use Rattle.common.specs.declared.Refusal.{Refusal}
 use Rattle.common.specs.declared.Refusal.the-variants.{RamNot8K, StateOutOfRange}
 use Rattle.cartridge.specs.Load.{ramsFit}
+use Rattle.cartridge.specs.declared.MapperType.{MapperType}
 use Rattle.places.specs.declared.Landing.{Landing}
 use Rattle.places.specs.declared.Landing.the-variants.{At, Refused}
 use Rattle.boards.specs.Range.{guarded}
 use Rattle.boards.specs.Write.{writeLanding, acceptedWrite, writtenAs, landingIf}
 use Rattle.boards.specs.Clock.{clockIf}
 use Rattle.boards.specs.declared.Written.{Written}
+use Rattle.pages.specs.Pages.{told}
 use Rattle.states.specs.Words.{cartSizes, mapperOf, wordsOf, boardIn}
 use Rattle.states.specs.Kept.{isKept}
-use Rattle.states.specs.Steps.{afterWrite, afterClock}
+use Rattle.states.specs.Steps.{cartIsKept, modeIsKept, banksAreKept, mmc3IsKept, fitsOn, afterWrite, afterClock}
 use Rattle.states.specs.declared.Words.{Words}
+use Rattle.states.proofs.Judged.{in-parts}
 use Rattle.states.proofs.Moved.{after-write, after-clock}
 use Rattle.exports.specs.Bytes.{kept}
-use Rattle.exports.specs.Numbers.{refused, clockNumber, writeNumber}
+use Rattle.exports.specs.Numbers.{refused, clockNumber, writeNumber, pagesNumber}
+
+-- the mapper that the first word names is the board's
+pub named : (w : Words) → mapperOf (flatDigits cartSizes (w .cart)) ≡ boardIn w .cart .mapper
+unfolding boardIn
+named w = refl
+
+-- the state judged in its four parts, as the calls do it
+pub four-parts : {v w : Words} {k : MapperType} {x y z u : Bool} → v ≡ w → k ≡ mapperOf (flatDigits cartSizes (v .cart))
+    → x ≡ cartIsKept k (v .cart) (v .length) → y ≡ modeIsKept k (v .cart) → z ≡ banksAreKept k (v .banks) → u ≡ mmc3IsKept k (v .regs) (v .irq)
+    → (x && y && z && u) ≡ isKept w
+four-parts {v} g e a b c d = (λ i. a i && b i && c i && d i) ∙ ap (λ (m : MapperType). fitsOn m v) e ∙ in-parts v ∙ ap isKept g
 
 module _ (s : List ℕ) (w : Words) where
   abbrev keptAs : Bool → Words → List ℕ
@@ -63,3 +77,9 @@ module _ (s : List ℕ) (w : Words) where
     unfolding guarded
     write-kept t h prg chr =
         either (λ (p : Landing). Kept (writtenAs (boardIn w) p v a)) (ramsFit (length prg) (length chr)) (judged t h (writeLanding (boardIn w) a)) (refused-at RamNot8K)
+
+-- the number of whether pages are told
+pub number-told : (t : Bool) → pagesNumber (told t) ≡ cond t 0 (refused StateOutOfRange)
+unfolding pagesNumber told
+number-told true = refl
+number-told false = refl

@@ -3,4 +3,3 @@ pub mod RoundTrip
 pub mod AsBoards
 pub mod Unique
 mod Keeps
-mod BoardRead

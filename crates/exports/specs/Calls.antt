@@ -1,5 +1,5 @@
 -- What each exported call owes its caller: docs/ABI.md, "Answers and refusals". Load, read, write and clock are the board's own, on the board that the bytes hold.
-use Prim.Native.Nat.{ℕ}
+use Prim.Native.Nat.{ℕ, _+_}
 use mathlib.Core.Path.{_≡_}
 use mathlib.Core.Bool.{Bool, cond, _&&_}
 use mathlib.Core.List.{List}
@@ -17,8 +17,11 @@ use Rattle.boards.specs.Read.{readIf}
 use Rattle.boards.specs.Write.{landingIf, writtenAs}
 use Rattle.boards.specs.Clock.{clockIf}
 use Rattle.boards.specs.declared.Loaded.{Loaded}
+use Rattle.pages.specs.Pages.{readPage, writePage, numbers, isTold}
+use Rattle.pages.specs.Parts.{partsMoved}
+use Rattle.pages.specs.declared.Parts.{Parts}
 use Rattle.states.specs.Words.{wordsOf, digitsOf}
-use Rattle.exports.specs.Numbers.{refused, readNumber, writeNumber, clockNumber, loadNumber, headerNumber, fieldsAfter}
+use Rattle.exports.specs.Numbers.{refused, readNumber, writeNumber, clockNumber, loadNumber, movedNumber, headerNumber, fieldsAfter}
 use Rattle.exports.specs.Bytes.{wordsIn, boardIn, isState, isStateFor, kept}
 
 -- load: "9, 10 (`state` is not 40 bytes, or `mode` is neither 0 house nor 1 board), 3, 4, 5, 6, 7, 8"
@@ -55,6 +58,16 @@ pub record WriteOwes (s image prg chr : List ℕ) (a v r : ℕ) (s′ prg′ chr
   pub prg-ram : prg′ ≡ storedPrg (writing s image prg chr a) v prg
   pub chr-ram : chr′ ≡ storedChr (writing s image prg chr a) v chr
 
+-- the pages that a write may have moved: those whose registers it left with another value
+abbrev pub movedPages : List ℕ → List ℕ → List ℕ → List ℕ → ℕ → ℕ → Parts
+movedPages s image prg chr a v =
+    partsMoved (boardIn s .cart .mapper) (boardIn s .registers) (writtenAs (boardIn s) (writing s image prg chr a) v a .board .registers)
+
+-- what the write that tells them owes: the answer of the write with them above it; the state and both RAMs as the write leaves them
+pub record WriteMovedOwes (s image prg chr : List ℕ) (a v r : ℕ) (s′ prg′ chr′ : List ℕ) : Type 0 where
+  pub reply : r ≡ writeNumber (writtenAs (boardIn s) (writing s image prg chr a) v a .answer) + movedNumber (movedPages s image prg chr a v)
+  pub left : WriteOwes s image prg chr a v (writeNumber (writtenAs (boardIn s) (writing s image prg chr a) v a .answer)) s′ prg′ chr′
+
 -- what a clock owes: the answer and the state
 pub record ClockOwes (s : List ℕ) (r : ℕ) (s′ : List ℕ) : Type 0 where
   pub reply : r ≡ clockNumber (clockIf (isState s) (boardIn s) .answer)
@@ -68,6 +81,16 @@ isShown s d = isState s && eqb (length d) 40
 pub record DigitsOwes (s d : List ℕ) (r : ℕ) (d′ : List ℕ) : Type 0 where
   pub reply : r ≡ cond (isShown s d) 0 (refused StateOutOfRange)
   pub digits : d′ ≡ cond (isShown s d) (digitsOf (wordsIn s)) d
+
+-- the pages are told of a state that a board could have, as far as there is room up to page 63
+abbrev pub told : List ℕ → ℕ → List ℕ → List ℕ → Bool
+told s first reads writes = isTold (isState s) first (length reads) (length writes)
+
+-- what the pages owe: the answer, where each page is read from, and where a write to it goes
+pub record PagesOwes (s : List ℕ) (first : ℕ) (reads writes : List ℕ) (r : ℕ) (reads′ writes′ : List ℕ) : Type 0 where
+  pub reply : r ≡ cond (told s first reads writes) 0 (refused StateOutOfRange)
+  pub read-pages : reads′ ≡ cond (told s first reads writes) (numbers (readPage (boardIn s)) first (length reads)) reads
+  pub write-pages : writes′ ≡ cond (told s first reads writes) (numbers (writePage (boardIn s)) first (length writes)) writes
 
 -- what the header reader owes: the answer and the twelve fields; "10 (`fields` is not 12 bytes), 1, 2"
 pub record HeaderOwes (image f : List ℕ) (r : ℕ) (f′ : List ℕ) : Type 0 where

@@ -1,15 +1,28 @@
 -- The answers as numbers: docs/ABI.md, "Answers and refusals". Those of the boards' calls are the boards' own.
-use Prim.Native.Nat.{ℕ}
+use Prim.Native.Nat.{ℕ, _+_}
+use mathlib.Core.Bool.{cond}
 use mathlib.Core.List.{List, [], _∷_}
 use Rattle.cartridge.specs.declared.Header.{Header}
 use Rattle.cartridge.specs.declared.HeaderAnswer.{HeaderAnswer}
 use Rattle.cartridge.specs.declared.HeaderAnswer.the-variants.{Read, Refused}
+use Rattle.pages.specs.declared.Parts.{Parts}
+use Rattle.pages.specs.declared.PagesAnswer.{PagesAnswer}
+use Rattle.pages.specs.declared.PagesAnswer.the-variants.{Told, Refused as NotTold}
 unfoldable pub use Rattle.boards.specs.Numbers.{refused, readNumber, writeNumber, clockNumber, loadNumber}
 
 -- the header reader: 0
 unfoldable pub headerNumber : HeaderAnswer → ℕ
 headerNumber (Read h) = 0
 headerNumber (Refused why) = refused why
+
+-- above a write's answer: 0x10000 where pages 0 to 7 may have moved, 0x20000 where pages 32 to 63 may
+unfoldable pub movedNumber : Parts → ℕ
+movedNumber p = cond (p .chr) 0x10000 0 + cond (p .prg) 0x20000 0
+
+-- the pages: 0
+unfoldable pub pagesNumber : PagesAnswer → ℕ
+pagesNumber Told = 0
+pagesNumber (NotTold why) = refused why
 
 -- "The header reader answers bytes 4 to 15 as they stand"
 unfoldable pub fieldsOf : Header → List ℕ
@@ -24,6 +37,6 @@ unfoldable pub fieldsAfter : HeaderAnswer → List ℕ → List ℕ
 fieldsAfter (Read h) f = fieldsOf h
 fieldsAfter (Refused why) f = f
 
--- "The version of the exported calls is 1": it grows where a call, an answer or what a caller owes becomes another
+-- "The version of the exported calls is 2": it grows where a call is added, or a call, an answer or what a caller owes becomes another
 abbrev pub version : ℕ
-version = 1
+version = 2

@@ -7,23 +7,27 @@ ghost use lib.ListN.{length};
 ghost use Rattle.rules.specs.Flat.{flatWord, flatDigits};
 ghost use Rattle.rules.specs.Rows.{bytes};
 ghost use Rattle.memory.specs.Memory.{part, copied};
-ghost use Rattle.cartridge.specs.declared.MapperType.the-variants.{Nrom as OnNrom, Mmc1 as OnMmc1, Uxrom as OnUxrom, Cnrom as OnCnrom, Mmc3 as OnMmc3};
-ghost use Rattle.exports.specs.Numbers.{refused, readNumber, writeNumber, clockNumber, loadNumber, fieldsOf, version};
+ghost use Rattle.exports.specs.Numbers.{refused, readNumber, writeNumber, clockNumber, loadNumber, movedNumber, pagesNumber, fieldsOf, version};
 ghost use Rattle.exports.specs.Bytes.{wordAt, fiveWords, wordsIn, bytesOf, kept};
-ghost use Rattle.exports.specs.Calls.{readBytes, WriteOwes, ClockOwes, LoadOwes, HeaderOwes, DigitsOwes};
-ghost use Rattle.exports.specs.Steps.{readAt, readOn, readIn, wordPut, FieldsPut};
+ghost use Rattle.exports.specs.Calls.{readBytes, WriteOwes, WriteMovedOwes, ClockOwes, LoadOwes, HeaderOwes, DigitsOwes, PagesOwes};
+ghost use Rattle.exports.specs.Steps.{wordPut, FieldsPut, WroteOwes};
 use boards::ClockAnswer;
 use boards::LoadAnswer;
 use boards::WriteAnswer;
-use cartridge::Cartridge;
 use cartridge::Header;
 use cartridge::HeaderAnswer;
-use cartridge::MapperType;
 use common::Mode;
 use common::Refusal;
-use places::Landing;
+use pages::PagesAnswer;
+use pages::Parts;
 use places::ReadAnswer;
 use states::Words;
+
+// A write's answer, and the pages that it may have moved.
+pub struct Wrote {
+    pub answer: u16,
+    pub parts: Parts,
+}
 
 // An answer of 256 or more is a refusal, 256 above its number.
 fn refusal(why: Refusal) -> u16
@@ -67,6 +71,26 @@ fn load_number(answer: LoadAnswer) -> u16
     match answer {
         LoadAnswer::Accepted => 0,
         LoadAnswer::Refused(why) => refusal(why),
+    }
+}
+
+// Above a write's answer: which pages it may have moved.
+fn moved_number(parts: Parts) -> u32
+    ensures { λ r. ⌜ (r ≡ movedNumber parts) × (r ≤ 0x30000) ⌝ }
+{
+    if parts.chr {
+        if parts.prg { 0x3_0000 } else { 0x1_0000 }
+    } else {
+        if parts.prg { 0x2_0000 } else { 0 }
+    }
+}
+
+fn pages_number(answer: PagesAnswer) -> u16
+    ensures { λ r. ⌜ r ≡ pagesNumber answer ⌝ }
+{
+    match answer {
+        PagesAnswer::Told => 0,
+        PagesAnswer::Refused(why) => refusal(why),
     }
 }
 
@@ -179,147 +203,39 @@ fn keep(state: &mut [u8], answer: u16, w: Words)
     }
 }
 
-// The byte where a read lands, or the board's own refusal.
-fn read_at(cart: Cartridge, landing: Landing, image: &[u8], prg: &[u8], chr: &[u8]) -> u16
-    ensures { λ r. ⌜ r ≡ readAt cart landing (now (image .entry)) (now (prg .entry)) (now (chr .entry)) ⌝ }
-{
-    read_number(places::answer_at(landing, places::byte_at(cart, landing, image, prg, chr)))
-}
-
-// A read has a function for each board: it is the call that a game makes most, so it looks at no other
-// board's digits, and works out a place only once the state is judged.
-fn nrom_read(w: Words, image: &[u8], prg: &[u8], chr: &[u8], address: u16) -> u16
-    ensures { λ r. ⌜ r ≡ readOn OnNrom w (now (image .entry)) (now (prg .entry)) (now (chr .entry)) address ⌝ }
-{
-    let mapper = MapperType::Nrom;
-    let fits = states::cart_is_kept(mapper, w.cart, w.length)
-        & states::mode_is_kept(mapper, w.cart)
-        & states::banks_are_kept(mapper, w.banks)
-        & states::mmc3_is_kept(mapper, w.regs, w.irq);
-    if fits {
-        let cart = states::cart_in(w.cart, w.length);
-        read_at(cart, nrom::read_landing(cart, address), image, prg, chr)
-    } else {
-        refusal(Refusal::StateOutOfRange)
-    }
-}
-
-fn mmc1_read(w: Words, image: &[u8], prg: &[u8], chr: &[u8], address: u16) -> u16
-    ensures { λ r. ⌜ r ≡ readOn OnMmc1 w (now (image .entry)) (now (prg .entry)) (now (chr .entry)) address ⌝ }
-{
-    let mapper = MapperType::Mmc1;
-    let fits = states::cart_is_kept(mapper, w.cart, w.length)
-        & states::mode_is_kept(mapper, w.cart)
-        & states::banks_are_kept(mapper, w.banks)
-        & states::mmc3_is_kept(mapper, w.regs, w.irq);
-    if fits {
-        let cart = states::cart_in(w.cart, w.length);
-        let mmc1 = states::mmc1_in(w.banks);
-        read_at(cart, mmc1.read_landing(cart, address), image, prg, chr)
-    } else {
-        refusal(Refusal::StateOutOfRange)
-    }
-}
-
-fn uxrom_read(w: Words, image: &[u8], prg: &[u8], chr: &[u8], address: u16) -> u16
-    ensures { λ r. ⌜ r ≡ readOn OnUxrom w (now (image .entry)) (now (prg .entry)) (now (chr .entry)) address ⌝ }
-{
-    let mapper = MapperType::Uxrom;
-    let fits = states::cart_is_kept(mapper, w.cart, w.length)
-        & states::mode_is_kept(mapper, w.cart)
-        & states::banks_are_kept(mapper, w.banks)
-        & states::mmc3_is_kept(mapper, w.regs, w.irq);
-    if fits {
-        let cart = states::cart_in(w.cart, w.length);
-        let uxrom = states::uxrom_in(w.banks);
-        read_at(cart, uxrom.read_landing(cart, address), image, prg, chr)
-    } else {
-        refusal(Refusal::StateOutOfRange)
-    }
-}
-
-fn cnrom_read(w: Words, image: &[u8], prg: &[u8], chr: &[u8], address: u16) -> u16
-    ensures { λ r. ⌜ r ≡ readOn OnCnrom w (now (image .entry)) (now (prg .entry)) (now (chr .entry)) address ⌝ }
-{
-    let mapper = MapperType::Cnrom;
-    let fits = states::cart_is_kept(mapper, w.cart, w.length)
-        & states::mode_is_kept(mapper, w.cart)
-        & states::banks_are_kept(mapper, w.banks)
-        & states::mmc3_is_kept(mapper, w.regs, w.irq);
-    if fits {
-        let cart = states::cart_in(w.cart, w.length);
-        let cnrom = states::cnrom_in(w.banks);
-        read_at(cart, cnrom.read_landing(cart, address), image, prg, chr)
-    } else {
-        refusal(Refusal::StateOutOfRange)
-    }
-}
-
-fn mmc3_read(w: Words, image: &[u8], prg: &[u8], chr: &[u8], address: u16) -> u16
-    ensures { λ r. ⌜ r ≡ readOn OnMmc3 w (now (image .entry)) (now (prg .entry)) (now (chr .entry)) address ⌝ }
-{
-    let mapper = MapperType::Mmc3;
-    let fits = states::cart_is_kept(mapper, w.cart, w.length)
-        & states::mode_is_kept(mapper, w.cart)
-        & states::banks_are_kept(mapper, w.banks)
-        & states::mmc3_is_kept(mapper, w.regs, w.irq);
-    if fits {
-        let cart = states::cart_in(w.cart, w.length);
-        let mmc3 = states::mmc3_in(w.regs, w.irq);
-        read_at(cart, mmc3.read_landing(cart, address), image, prg, chr)
-    } else {
-        refusal(Refusal::StateOutOfRange)
-    }
-}
-
-// By the board that the first word names, if the image is as long as the one loaded.
-fn read_in(w: Words, image: &[u8], prg: &[u8], chr: &[u8], address: u16) -> u16
-    ensures { λ r. ⌜ r ≡ readIn w (now (image .entry)) (now (prg .entry)) (now (chr .entry)) address ⌝ }
-{
-    let mapper = states::mapper_in(w.cart);
-    if (image.len() as u64) == w.length {
-        match mapper {
-            MapperType::Nrom => nrom_read(w, image, prg, chr, address),
-            MapperType::Mmc1 => mmc1_read(w, image, prg, chr, address),
-            MapperType::Uxrom => uxrom_read(w, image, prg, chr, address),
-            MapperType::Cnrom => cnrom_read(w, image, prg, chr, address),
-            MapperType::Mmc3 => mmc3_read(w, image, prg, chr, address),
-        }
-    } else {
-        refusal(Refusal::StateOutOfRange)
-    }
-}
-
-// The three calls of a board: decoded, judged in the four parts of `states`, served, and what moved is
-// kept.
+// The calls of a board: decoded, judged in the four parts of `states`, served, and what moved is kept. The
+// judgement stands in each of them, since one function for all would not be compiled into its callers.
 #[no_mangle]
-pub extern "C" fn biekkarul_read(
+pub extern "C" fn biekkarul_read<'a>(
     state: &[u8],
-    image: &[u8],
+    image: &'a [u8],
     prg: &[u8],
-    chr: &[u8],
+    chr: &'a [u8],
     address: u16,
 ) -> u16
     ensures { λ r. ⌜ r ≡ readBytes (now (state .entry)) (now (image .entry)) (now (prg .entry)) (now (chr .entry)) address ⌝ }
 {
     let w = words_in(state);
-    if cartridge::rams_fit(prg.len(), chr.len()) {
-        read_in(w, image, prg, chr, address)
-    } else {
-        refusal(Refusal::RamNot8K)
-    }
+    let board = states::board_in(w);
+    let mapper = states::mapper_in(w.cart);
+    let fits = states::cart_is_kept(mapper, w.cart, w.length)
+        & states::mode_is_kept(mapper, w.cart)
+        & states::banks_are_kept(mapper, w.banks)
+        & states::mmc3_is_kept(mapper, w.regs, w.irq);
+    let loaded = (image.len() as u64) == w.length;
+    read_number(board.read_if(fits & loaded, image, prg, chr, address))
 }
 
-#[no_mangle]
-pub extern "C" fn biekkarul_write(
+// The one write behind both exported ones: its answer, and the pages that it may have moved.
+fn write_in(
     state: &mut [u8],
     image: &[u8],
     prg: &mut [u8],
     chr: &mut [u8],
     address: u16,
     value: u8,
-) -> u16
-    ensures { λ r. ⌜ WriteOwes (now (state .entry)) (now (image .entry)) (now (prg .entry)) (now (chr .entry)) address value r (now (state .exit)) (now (prg .exit)) (now (chr .exit)) ⌝ }
+) -> Wrote
+    ensures { λ r. ⌜ WroteOwes (now (state .entry)) (now (image .entry)) (now (prg .entry)) (now (chr .entry)) address value r (now (state .exit)) (now (prg .exit)) (now (chr .exit)) ⌝ }
 {
     let w = words_in(state);
     let board = states::board_in(w);
@@ -333,8 +249,40 @@ pub extern "C" fn biekkarul_write(
     let said = written.answer;
     let answer = write_number(said);
     let next = written.board;
+    let parts = pages::moved(mapper, board.registers, next.registers);
     keep(state, answer, states::after_write(mapper, w, next));
-    answer
+    Wrote { answer, parts }
+}
+
+#[no_mangle]
+pub extern "C" fn biekkarul_write(
+    state: &mut [u8],
+    image: &[u8],
+    prg: &mut [u8],
+    chr: &mut [u8],
+    address: u16,
+    value: u8,
+) -> u16
+    ensures { λ r. ⌜ WriteOwes (now (state .entry)) (now (image .entry)) (now (prg .entry)) (now (chr .entry)) address value r (now (state .exit)) (now (prg .exit)) (now (chr .exit)) ⌝ }
+{
+    let wrote = write_in(state, image, prg, chr, address, value);
+    wrote.answer
+}
+
+// The same write, with the pages that it may have moved above its answer.
+#[no_mangle]
+pub extern "C" fn biekkarul_write_moved(
+    state: &mut [u8],
+    image: &[u8],
+    prg: &mut [u8],
+    chr: &mut [u8],
+    address: u16,
+    value: u8,
+) -> u32
+    ensures { λ r. ⌜ WriteMovedOwes (now (state .entry)) (now (image .entry)) (now (prg .entry)) (now (chr .entry)) address value r (now (state .exit)) (now (prg .exit)) (now (chr .exit)) ⌝ }
+{
+    let wrote = write_in(state, image, prg, chr, address, value);
+    (wrote.answer as u32) + moved_number(wrote.parts)
 }
 
 #[no_mangle]
@@ -412,6 +360,26 @@ pub extern "C" fn biekkarul_digits(state: &[u8], digits: &mut [u64]) -> u16
     }
 }
 
+// Where each page is read from, and where a write to it goes, as the state has them.
+#[no_mangle]
+pub extern "C" fn biekkarul_pages(
+    state: &[u8],
+    first: u8,
+    reads: &mut [u32],
+    writes: &mut [u32],
+) -> u16
+    ensures { λ r. ⌜ PagesOwes (now (state .entry)) first (now (reads .entry)) (now (writes .entry)) r (now (reads .exit)) (now (writes .exit)) ⌝ }
+{
+    let w = words_in(state);
+    let board = states::board_in(w);
+    let mapper = states::mapper_in(w.cart);
+    let fits = states::cart_is_kept(mapper, w.cart, w.length)
+        & states::mode_is_kept(mapper, w.cart)
+        & states::banks_are_kept(mapper, w.banks)
+        & states::mmc3_is_kept(mapper, w.regs, w.irq);
+    pages_number(pages::pages_if(fits, board, first, reads, writes))
+}
+
 fn fields_of(h: Header) -> [u8; 12]
     ensures { λ r. ⌜ r ≡ fieldsOf h ⌝ }
 {
@@ -460,5 +428,5 @@ pub extern "C" fn biekkarul_header(image: &[u8], fields: &mut [u8]) -> u16
 pub extern "C" fn biekkarul_version() -> u32
     ensures { λ r. ⌜ r ≡ version ⌝ }
 {
-    1
+    2
 }

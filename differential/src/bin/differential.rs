@@ -14,7 +14,10 @@ const HELP: &str = "\
 differential: plays the same calls on the exported library (house mode) and on the original Rust, and compares
 
   differential                        the gate's run: fixed seeds, the same calls every time; it fails too where it
-                                      has compared fewer than 20 million calls, or fewer than 4 million on a board
+                                      has compared fewer than 20 million calls, or fewer than 4 million on a board,
+                                      in all or of those that are made through the wrapper and the map of pages
+                                      too; fewer than 1,000 of these refused with each of 11 to 14; or fewer than a
+                                      million bytes of RAM read both through their page and by the call
   differential --minutes N [--seed S] the exhaustive parts, more of them, and random histories; N may have a point;
                                       its last line tells how many of the exhaustive jobs came to their end
   differential --sabotage NAME        the gate's run with one of our answers altered: it has to fail
@@ -57,7 +60,8 @@ fn conclude(options: &Options, summary: &Summary) -> ExitCode {
     let extent = format!("exhaustive jobs {done} of {all}, {} rounds, {:.1} s", summary.rounds, summary.seconds);
     match (&summary.failure, summary.shortfall(options.plan)) {
         (None, None) => {
-            println!("{extent}: {calls} calls compared, no mismatch");
+            let paged = grouped(summary.tally.paged());
+            println!("{extent}: {calls} calls compared, {paged} of them through the wrapper too, no mismatch");
             ExitCode::SUCCESS
         }
         (None, Some(what)) => {

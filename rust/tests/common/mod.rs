@@ -1,6 +1,8 @@
 //! Images and the parts of a board that a refusal must leave, for all tests.
 #![allow(dead_code)] // each test file uses a part
 
+pub mod reading;
+
 use biekkarul::{Board, Digit, Digits, Mode, DIGITS, RAM_LENGTH, STATE_LENGTH};
 
 pub const HEADER: usize = 16;

@@ -1,11 +1,6 @@
 -- The board's own clock, and what it leaves. Assumes nothing.
-use mathlib.Core.Path.{ap, _∙_}
-use mathlib.Core.Bool.{_&&_}
-use Rattle.states.specs.Kept.{isKept}
-use Rattle.states.specs.Steps.{fitsOn}
-use Rattle.states.proofs.Judged.{in-parts}
 use Rattle.exports.specs.Bytes.{wordsIn}
-use Rattle.exports.proofs.Keeps.{clock-kept}
+use Rattle.exports.proofs.Keeps.{four-parts, clock-kept}
 use Rattle.rules.proofs.Picks.{picks}
 use Rattle.exports.proofs.biekkarul_clock.Statement.{statement}
 use Rattle.exports.proofs.biekkarul_clock.Tie as tie
@@ -20,11 +15,7 @@ biekkarul-clock-spec =
     (λ c.
     let d = c .before .before .before .before .before .before .before .before in
     let w = d .before .before .before .before .before .before .words-in .ensures in
-    let v = d .before .before .before .before .before .before .words-in .result in
-    let k =
-    (λ i. d .before .before .before .cart-is-kept .ensures i && d .before .before .mode-is-kept .ensures i && d .before .banks-are-kept .ensures i && d .mmc3-is-kept .ensures i)
-    ∙ ap (λ x. fitsOn x v) (d .before .before .before .before .mapper-in .ensures)
-    ∙ in-parts v ∙ ap isKept w in
+    let k = four-parts w (d .before .before .before .before .mapper-in .ensures) (d .before .before .before .cart-is-kept .ensures) (d .before .before .mode-is-kept .ensures) (d .before .banks-are-kept .ensures) (d .mmc3-is-kept .ensures) in
     let t = c .before .before .before .before .before .before .before .clock-if .ensures in
     let b = d .before .before .before .before .before .board-in .ensures in
     record {

@@ -2,14 +2,13 @@
 use mathlib.Core.Path.{ap, sym, _∙_}
 use mathlib.Core.Bool.{_&&_}
 use Rattle.states.specs.Kept.{isKept}
-use Rattle.states.specs.Steps.{fitsOn}
-use Rattle.states.proofs.Judged.{in-parts}
 use lib.Dec.{eqb}
 use lib.ListN.{length}
 use Rattle.exports.specs.Bytes.{wordsIn}
 use Rattle.rules.proofs.Bools.{and-left, and-right}
 use Rattle.rules.proofs.Picks.{picks}
 use Rattle.memory.specs.Memory.{copied}
+use Rattle.exports.proofs.Keeps.{four-parts}
 use Rattle.exports.proofs.biekkarul_digits.Statement.{statement}
 use Rattle.exports.proofs.biekkarul_digits.Tie as tie
 
@@ -24,11 +23,7 @@ biekkarul-digits-spec =
     (λ c.
     let d = c .before .before .before .before .before .before .before in
     let w = d .before .before .before .before .before .words-in .ensures in
-    let v = d .before .before .before .before .before .words-in .result in
-    let k =
-    (λ i. d .before .before .before .cart-is-kept .ensures i && d .before .before .mode-is-kept .ensures i && d .before .banks-are-kept .ensures i && d .mmc3-is-kept .ensures i)
-    ∙ ap (λ x. fitsOn x v) (d .before .before .before .before .mapper-in .ensures)
-    ∙ in-parts v ∙ ap isKept w in
+    let k = four-parts w (d .before .before .before .before .mapper-in .ensures) (d .before .before .before .cart-is-kept .ensures) (d .before .before .mode-is-kept .ensures) (d .before .banks-are-kept .ensures) (d .mmc3-is-kept .ensures) in
     let s = d .before .before .before .before .before .before .before .before .args .state .now in
     let x = eqb (length (d .before .before .before .before .before .before .before .before .args .digits .now)) 40 in
     let e = ap (λ y. y && x) (sym k) ∙ c .before .before .before .before .before .before .if1 .taken in
@@ -41,11 +36,7 @@ biekkarul-digits-spec =
     (λ c.
     let d = c .before .before in
     let w = d .before .before .before .before .before .words-in .ensures in
-    let v = d .before .before .before .before .before .words-in .result in
-    let k =
-    (λ i. d .before .before .before .cart-is-kept .ensures i && d .before .before .mode-is-kept .ensures i && d .before .banks-are-kept .ensures i && d .mmc3-is-kept .ensures i)
-    ∙ ap (λ x. fitsOn x v) (d .before .before .before .before .mapper-in .ensures)
-    ∙ in-parts v ∙ ap isKept w in
+    let k = four-parts w (d .before .before .before .before .mapper-in .ensures) (d .before .before .before .cart-is-kept .ensures) (d .before .before .mode-is-kept .ensures) (d .before .banks-are-kept .ensures) (d .mmc3-is-kept .ensures) in
     let x = eqb (length (d .before .before .before .before .before .before .before .before .args .digits .now)) 40 in
     let e = ap (λ y. y && x) (sym k) ∙ c .before .if1 .left in
     record {

@@ -1,19 +1,27 @@
 -- The board's own read. Assumes nothing.
-use mathlib.Core.Path.{sym, _∙_}
 use Rattle.rules.proofs.Picks.{picks}
-use Rattle.places.specs.Places.{answerAt}
-use Rattle.boards.specs.Range.{guarded}
-use Rattle.exports.specs.Numbers.{readNumber}
 use Rattle.exports.specs.Calls.{readBytes}
-use Rattle.exports.proofs.BoardRead.{board-read}
+use Rattle.exports.proofs.Keeps.{four-parts}
 use Rattle.exports.proofs.biekkarul_read.Statement.{statement}
 use Rattle.exports.proofs.biekkarul_read.Tie as tie
 
 pub biekkarul-read-spec : {M : Type 1} → statement M
-unfolding readBytes guarded answerAt readNumber
+unfolding readBytes
 biekkarul-read-spec =
     tie.close
     (tie.spec
-    (λ c κs. search picks) (λ c κs. search picks) (λ c κs. search picks) (λ c κs. search picks)
-    (λ c. let t = sym (c .before .before .rams-fit .ensures) ∙ c .before .if1 .taken in simp (t, c .read-in .ensures, board-read, c .before .before .before .words-in .ensures))
-    (λ c. let t = sym (c .before .before .rams-fit .ensures) ∙ c .before .if1 .left in simp (t, c .refusal .ensures)))
+    (λ c κs. search picks)
+    (λ c κs. search picks)
+    (λ c κs. search picks)
+    (λ c κs. search picks)
+    (λ c κs. search picks)
+    (λ c κs. search picks)
+    (λ c κs. search picks)
+    (λ c κs. search picks)
+    (λ c κs. search picks)
+    (λ c.
+    let d = c .before .before .before in
+    let w = d .before .before .before .before .before .before .words-in .ensures in
+    let k = four-parts w (d .before .before .before .before .mapper-in .ensures) (d .before .before .before .cart-is-kept .ensures) (d .before .before .mode-is-kept .ensures) (d .before .banks-are-kept .ensures) (d .mmc3-is-kept .ensures) in
+    let b = d .before .before .before .before .before .board-in .ensures in
+    simp (c .read-number .ensures, c .before .read-if .ensures, k, b, w)))

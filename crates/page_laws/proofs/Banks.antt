@@ -1,0 +1,79 @@
+-- The banks that MMC1 and MMC3 show are the same where the registers of their part are. Assumes nothing.
+use Prim.Native.Nat.{ℕ, zero, suc, _/_, _<_}
+use mathlib.Core.Path.{_≡_, refl}
+use mathlib.Core.Bool.{Bool, true, _&&_}
+use mathlib.Core.List.{List, [], _∷_}
+use native.Mathlib.Omega.{arith}
+use lib.Dec.{ltb, eqb}
+use lib.ListN.{getD}
+use borrow.Author.Tests.{ltb-true, eqb-true}
+use Rattle.rules.proofs.Bools.{and-left, and-right, split-3, split-5}
+use Rattle.cartridge.specs.declared.Cartridge.{Cartridge}
+use Rattle.mmc1.specs.Read as mmc1
+use Rattle.mmc1.specs.declared.Mmc1.{Mmc1}
+use Rattle.mmc3.specs.Read as mmc3
+use Rattle.mmc3.specs.declared.Mmc3.{Mmc3}
+use Rattle.pages.specs.Parts.{sameChr1, samePrg1, sameR, sameChr3, samePrg3}
+
+module _ (m n : Mmc1) (c : Cartridge) (a : ℕ) where
+  pub mmc1-chr : sameChr1 (m .regs) (n .regs) ≡ true → mmc1.chrBank m c a ≡ mmc1.chrBank n c a
+  unfolding sameChr1 mmc1.chrBank mmc1.lowerChr mmc1.upperChr
+  mmc1-chr e =
+      let r = m .regs in
+      let s = n .regs in
+      let p = split-3 (eqb (r .chrmode) (s .chrmode)) (eqb (r .chr0) (s .chr0)) (eqb (r .chr1) (s .chr1)) e in
+      rw (eqb-true (r .chrmode) (s .chrmode) (p .0), eqb-true (r .chr0) (s .chr0) (p .1), eqb-true (r .chr1) (s .chr1) (p .2)) refl
+
+  pub mmc1-prg : samePrg1 (m .regs) (n .regs) ≡ true → mmc1.prgBank m c a ≡ mmc1.prgBank n c a
+  unfolding samePrg1 mmc1.prgBank mmc1.lowerPrg mmc1.upperPrg
+  mmc1-prg e =
+      let r = m .regs in
+      let s = n .regs in
+      let f = and-left (eqb (r .prgmode) (s .prgmode)) (eqb (r .prg) (s .prg)) e in
+      let g = and-right (eqb (r .prgmode) (s .prgmode)) (eqb (r .prg) (s .prg)) e in
+      rw (eqb-true (r .prgmode) (s .prgmode) f, eqb-true (r .prg) (s .prg) g) refl
+
+-- no choice of a CHR slot names R6 or R7
+small : List ℕ → Bool
+small [] = true
+small (x ∷ l) = ltb x 12 && small l
+
+in-row : (l : List ℕ) (i : ℕ) → small l ≡ true → getD l i 0 / 2 < 6
+unfolding small
+in-row [] i e = omega arith
+in-row (x ∷ l) zero e = let h = ltb-true x 12 (and-left (ltb x 12) (small l) e) in omega arith
+in-row (x ∷ l) (suc i) e = in-row l i (and-right (ltb x 12) (small l) e)
+
+choices-small : (mode slot : ℕ) → mmc3.choice mode slot / 2 < 6
+unfolding mmc3.choice small
+choices-small zero slot = in-row (getD mmc3.choices 0 []) slot refl
+choices-small (suc zero) slot = in-row (getD mmc3.choices 1 []) slot refl
+choices-small (suc (suc n)) slot = in-row [] slot refl
+
+module _ (m n : Mmc3) where
+  same-r : (k : ℕ) → sameR m n k ≡ true → mmc3.register m k ≡ mmc3.register n k
+  same-r k = eqb-true (mmc3.register m k) (mmc3.register n k)
+
+  up-to-5 : sameR m n 0 ≡ true → sameR m n 1 ≡ true → sameR m n 2 ≡ true → sameR m n 3 ≡ true → sameR m n 4 ≡ true → sameR m n 5 ≡ true
+      → (k : ℕ) → k < 6 → mmc3.register m k ≡ mmc3.register n k
+  up-to-5 a b c d e f zero l = same-r 0 a
+  up-to-5 a b c d e f (suc zero) l = same-r 1 b
+  up-to-5 a b c d e f (suc (suc zero)) l = same-r 2 c
+  up-to-5 a b c d e f (suc (suc (suc zero))) l = same-r 3 d
+  up-to-5 a b c d e f (suc (suc (suc (suc zero)))) l = same-r 4 e
+  up-to-5 a b c d e f (suc (suc (suc (suc (suc zero))))) l = same-r 5 f
+  up-to-5 a b c d e f (suc (suc (suc (suc (suc (suc k)))))) l = absurd (omega arith)
+
+  pub mmc3-chr : sameChr3 m n ≡ true → (slot : ℕ) → mmc3.chrBank m slot ≡ mmc3.chrBank n slot
+  unfolding sameChr3 mmc3.chrBank mmc3.register
+  mmc3-chr e slot =
+      let p = split-3 (eqb (m .chrmode) (n .chrmode) && sameR m n 0 && sameR m n 1 && sameR m n 2 && sameR m n 3) (sameR m n 4) (sameR m n 5) e in
+      let q = split-5 (eqb (m .chrmode) (n .chrmode)) (sameR m n 0) (sameR m n 1) (sameR m n 2) (sameR m n 3) (p .0) in
+      let r = up-to-5 (q .1) (q .2) (q .3) (q .4) (p .1) (p .2) (mmc3.choice (m .chrmode) slot / 2) (choices-small (m .chrmode) slot) in
+      rw (← eqb-true (m .chrmode) (n .chrmode) (q .0), r) refl
+
+  pub mmc3-prg : samePrg3 m n ≡ true → (c : Cartridge) (a : ℕ) → mmc3.prgBank m c a ≡ mmc3.prgBank n c a
+  unfolding samePrg3 mmc3.prgBank mmc3.register
+  mmc3-prg e c a =
+      let p = split-3 (eqb (m .prgmode) (n .prgmode)) (sameR m n 6) (sameR m n 7) e in
+      rw (eqb-true (m .prgmode) (n .prgmode) (p .0), same-r 6 (p .1), same-r 7 (p .2)) refl

@@ -1,0 +1,13 @@
+-- The parts of the pages that a call moves.
+use mathlib.Core.Bool.{false}
+use Rattle.boards.specs.declared.Board.{Board}
+use Rattle.pages.specs.Parts.{partsMoved}
+use Rattle.pages.specs.declared.Parts.{Parts}
+
+-- from the board before it to the board after it
+abbrev pub movedParts : Board → Board → Parts
+movedParts b d = partsMoved (b .cart .mapper) (b .registers) (d .registers)
+
+-- none
+abbrev pub unmoved : Parts
+unmoved = record { chr = false; prg = false }
