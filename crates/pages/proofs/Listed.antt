@@ -4,7 +4,7 @@ use mathlib.Core.Path.{_≡_, refl, sym, _∙_, ap}
 use mathlib.Core.List.{List, _++_}
 use native.Mathlib.Nat.{not-suc-le-zero, le-of-suc-le-suc, le-antisymm}
 use native.Mathlib.Omega.{arith}
-use lib.ListN.{length, getD, set, take, drop}
+use lib.ListN.{length, getD, set, take, drop, length-set}
 use Rattle.rules.proofs.Lists.{copy-more, copy-all}
 use Rattle.pages.specs.Pages.{numbers}
 
@@ -23,19 +23,28 @@ module _ (f : ℕ → ℕ) (first : ℕ) (before : List ℕ) where
   pub laid : ℕ → List ℕ
   laid i = take i (numbers f first (length before)) ++ drop i before
 
-  pub laid-none : before ≡ laid 0
-  unfolding laid
-  laid-none = refl
+  -- what holds after i turns of a loop that lays one page after another
+  abbrev pub Turned : ℕ → List ℕ → ℕ → Type 0
+  Turned end pages i = (i ≤ length before) × (end ≡ length before) × (pages ≡ laid i) × (length pages ≡ length before)
 
-  pub laid-more : (pages : List ℕ) (i x : ℕ) → i < length before → pages ≡ laid i → x ≡ f (first + i) → set pages i x ≡ laid (i + 1)
+  pub turned-none : Turned (length before) before 0
   unfolding laid
-  laid-more pages i x h e g =
+  turned-none = (omega arith, refl, refl, refl)
+
+  pub turned-more : {end : ℕ} {pages : List ℕ} (i x : ℕ) → Turned end pages i → i < end → x ≡ f (first + i) → Turned end (set pages i x) (i + 1)
+  unfolding laid
+  turned-more {end} {pages} i x t l g =
       let n = length before in
-      rw (e, g, ← found f first n i h) (copy-more i (numbers f first n) before (rw (counted f first n) h) h)
+      let h : i < n = omega (arith, t .1) in (
+        omega arith,
+        t .1,
+        rw (t .2, g, ← found f first n i h) (copy-more i (numbers f first n) before (rw (counted f first n) h) h),
+        length-set pages i x ∙ t .3,
+      )
 
-  pub laid-all : (pages : List ℕ) (i : ℕ) → i ≤ length before → length before ≤ i → pages ≡ laid i → pages ≡ numbers f first (length before)
+  pub turned-all : {end : ℕ} {pages : List ℕ} (i : ℕ) → Turned end pages i → end ≤ i → pages ≡ numbers f first (length before)
   unfolding laid
-  laid-all pages i h l e =
+  turned-all i t l =
       let k = counted f first (length before) in
-      let m : i ≡ length (numbers f first (length before)) = le-antisymm h l ∙ sym k in
-      e ∙ rw m (copy-all (numbers f first (length before)) before (sym k))
+      let m : i ≡ length (numbers f first (length before)) = le-antisymm (t .0) (omega (arith, t .1)) ∙ sym k in
+      t .2 ∙ rw m (copy-all (numbers f first (length before)) before (sym k))
