@@ -50,6 +50,8 @@ fn link() -> Result<(), String> {
     write(&out.join(ARCHIVE), &bytes)?;
     println!("cargo:rustc-link-search=native={}", out.display());
     println!("cargo:rustc-link-lib=static=biekkarul");
+    // For the build script of a crate that depends on this one: DEP_BIEKKARUL_ARCHIVE.
+    println!("cargo:archive={}", out.join(ARCHIVE).display());
     Ok(())
 }
 

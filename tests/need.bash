@@ -57,6 +57,31 @@ library_folder() {
   library_in "$folder" >/dev/null && echo "$folder"
 }
 
+# library_mark LIBRARY: how the tables of long runs name it: its processor, which is this one, and the first 16 digits of its
+# SHA-256.
+library_mark() {
+  local sum
+  sum=$(sha256sum <"$1") && echo "$(uname -m) ${sum:0:16}"
+}
+
+# last_run PAGE NAME COMMAND LIBRARY: says whether the last run on this processor in the page's table was on this library.
+# It fails only where the page has no such table: another library is no fault, as a long run takes longer than the gate.
+last_run() {
+  local library='(x86_64|aarch64) ([0-9a-f]{16}|not kept)' mark rows row run
+  mark=$(library_mark "$4") || return
+  # date, minutes and library of each run
+  rows=$(sed -nE "s/^\| (20[0-9-]+)[^|]* \|[^|]*\| ([0-9]+) \|.* \| $library \|.*/\1, \2 min:\3 \4/p" "$1")
+  [ -n "$rows" ] || { echo "$1 has no run with its library"; return 1; }
+  row=$(grep -F ":$(uname -m) " <<<"$rows" | tail -n 1)
+  run="the last long run of $2 (${row%%:*})"
+  case ${row#*:} in
+  "$mark") echo "$run was on this library, $mark" ;;
+  '') echo "$1 has no long run of $2 on $(uname -m): run $3" ;;
+  *'not kept') echo "$run was on another library, which was not kept: run $3 again" ;;
+  *) echo "$run was on another library (${row#*:}), this one is $mark: run $3 again" ;;
+  esac
+}
+
 # program NAME: runs target/bin/NAME, which rt has made for x86-64. On another processor it is run as rt runs it, by the
 # kit's emulator.
 program() {

@@ -1,6 +1,7 @@
 #!/usr/bin/env bash
 # docs/PROMISES.md is true of the tree: every file, definition, theorem and must-fail edit that it names is there, and
-# every function and type that any page names by its crate.
+# every function and type that any page names by its crate. Every row of it says in its third column what holds it, by one
+# of five words; one that says theorem or computed names a file of proofs, one that says run a test.
 set -uo pipefail
 cd "$(dirname "${BASH_SOURCE[0]}")/.." || exit 2
 page=docs/PROMISES.md
@@ -40,12 +41,36 @@ while IFS= read -r row; do
   done < <(grep -o '`[^`]*`' <<<"$row" | tr -d '\140')
 done < <(grep '`[^`]*\.antt' "$page")
 
+# Every row: sentence, definition, one of five words, what has the name of it
+declare -A rows=([contract]=0 [theorem]=0 [computed]=0 [run]=0 [page]=0)
+kinds='contract theorem computed run page'
+while IFS= read -r row; do
+  held=$(awk -F ' *[|] *' '{ print (NF == 6 ? $4 : "") }' <<<"$row")
+  if [[ $held == *[!a-z]* || " $kinds " != *" $held "* || -z $held ]]; then
+    echo "$page has a row that says '$held' where one of $kinds is to stand: ${row:0:80}"
+    lost=$((lost + 1))
+    continue
+  fi
+  rows[$held]=$((rows[$held] + 1))
+  case $held in
+  theorem | computed) named='/proofs/' ;;
+  run) named='`(tests/|rt check )' ;;
+  *) continue ;;
+  esac
+  [[ $row =~ $named ]] || { echo "$page says $held and names none: ${row:0:80}"; lost=$((lost + 1)); }
+done < <(grep '^|' "$page" | grep -vE '^[|](---[|])+$|^[|] Sentence [|] Definition [|] Held [|] By [|]$')
+
 # `crate/label` of a must-fail edit
 while IFS= read -r label; do
-  [ "$label" != crate/label ] || continue # the page's own word for one
   seen=$((seen + 1))
   [ -f "crates/${label%%/*}/must-fail/${label#*/}.edit" ] || missing "the edit $label"
 done < <(grep -oE '`[a-z0-9_]+/[a-z0-9_]+`' "$page" | tr -d '\140')
+
+# `tests/name.sh`
+while IFS= read -r test; do
+  seen=$((seen + 1))
+  [ -f "$test" ] || missing "$test"
+done < <(grep -oE '`tests/[^`]+`' "$page" | tr -d '\140')
 
 # `crate::name` and `crate::Type::name`, on every page
 while IFS=: read -r page path; do
@@ -57,5 +82,11 @@ while IFS=: read -r page path; do
   done
 done < <(grep -oHE '`[a-z0-9_]+(::[A-Za-z0-9_]+)+' README.md docs/*.md | tr -d '\140')
 
-echo "the pages: $seen names looked up, $lost missing"
-[ "$seen" -gt 100 ] && [ "$lost" -eq 0 ]
+all=0
+counted=
+for kind in $kinds; do
+  all=$((all + rows[$kind]))
+  counted+=", $kind ${rows[$kind]}"
+done
+echo "the pages: $seen names looked up, $lost faults; $all rows$counted"
+[ "$seen" -gt 100 ] && [ "$all" -gt 50 ] && [ "$lost" -eq 0 ]

@@ -1,7 +1,8 @@
 #!/usr/bin/env bash
 # The trials of trials/ without fuzzer and sanitizer: the shipped library and tracerun's own machine code against the
 # model of the boards in C, over the fuzzer's first inputs and many that chance makes of them; and each fault of
-# trials/faults.txt, put into the model under the calls, is found. Here calls.c has the shipped library on both sides.
+# trials/faults.txt, put into the model under the calls, is found. Here calls.c has the shipped library on both sides. At the
+# end it says whether the long runs that the pages record were on this library.
 set -uo pipefail
 export LC_ALL=C # one order of the files
 source "$(dirname "${BASH_SOURCE[0]}")/need.bash" || exit 2
@@ -47,3 +48,6 @@ while fault; do
 done < <(faults)
 [ "$found" -ge 20 ] || { echo "only $found faults"; exit 1; }
 echo "$found faults put into the model, each found"
+
+last_run docs/TRIALS.md "the fuzzer" "bash trials/fuzz.sh --minutes 60" "$library" &&
+  last_run docs/DIFFERENCES.md "the differential program" "it (docs/DIFFERENCES.md)" "$library"

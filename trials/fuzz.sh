@@ -118,4 +118,5 @@ wait "$calls"
 told calls $? || status=1
 wait "$traces"
 told traces $? || status=1
+echo "the library: $(library_mark "$library")" # for the table in docs/TRIALS.md
 exit "$status"

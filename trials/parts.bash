@@ -6,8 +6,8 @@ bytes() {
   printf '%b' "$(sed 's/../\\x&/g' <<<"${hex//[[:space:]]/}")"
 }
 
-# history MAPPER READ WRITE CLOCK: calls that visit each register and each window of the board, as hex. READ, WRITE and
-# CLOCK are the bytes that stand for the calls.
+# history MAPPER READ WRITE CLOCK: calls that visit each register and each window of the board, as hex, banks, latch
+# and RAM also with the greatest value. READ, WRITE and CLOCK are the bytes that stand for the calls.
 history() {
   local mapper=$1 read=$2 write=$3 clock=$4 address n
   serial() { # serial ADDRESS VALUE: five bits, least first
@@ -19,21 +19,24 @@ history() {
     serial 8000 0
     serial E000 7
     serial C000 9
-    echo "${read}8000${read}C000"
+    serial A000 31
+    echo "${read}8000${read}C000${read}1000"
     serial 8000 28
     echo "${read}1000"
     serial A000 31
     serial C000 30
     ;;
-  2 | 3) echo "${write}8000FF" ;;
+  2 | 3) echo "${write}8000FE${read}8000${write}8000FF" ;;
   4)
     for n in 0 1 2 3 4 5 6 7; do echo "${write}80000${n}${write}8001FF"; done
     echo "${write}8000C0${write}A00001${write}C00002${write}C00100${write}E00100$clock$clock$clock$clock$clock${write}E00000"
+    echo "${write}C000FF${write}C00100$clock$clock"
     ;;
   esac
   for address in 0000 0400 0FFF 1000 1C00 1FFF 2000 6000 8000 A000 C000 E000 FFFF; do
     echo "$write${address}5A$read$address"
   done
+  for address in 0000 1FFF 6000 7FFF; do echo "$write${address}FF$read$address"; done
 }
 
 # spoils MAPPER: bytes put into the state that leave it a state of this board (of NROM: that leave it none), as hex.
@@ -53,7 +56,8 @@ seeds() {
   for mapper in 0 1 2 3 4; do
     byte6=$(printf '%02X' $((mapper * 16)))
     for mode in 00 01; do
-      for counts in 0100 0101 0202 0300 0402 4040 8080; do
+      # few, the greatest that NROM and CNROM take, as many as MMC1's and MMC3's registers can say and more, the greatest
+      for counts in 0100 0101 0202 0280 0300 0402 1010 2020 4040 8080 FFFF; do
         for write in 02 22; do # plain, and telling which pages it moved
           # mode, choice of the image's length, header, choices of three lengths
           bytes "$mode" 00 "$counts$byte6${zeros:0:18}" 000000 "$(history "$mapper" 00 "$write" 05)" >"$1/seed-$mapper-$mode-$counts-$write"

@@ -34,14 +34,24 @@ static size_t read_file(const char *name, uint8_t *bytes) {
     return length;
 }
 
+/* Any byte; in a quarter of the draws one at a limit, a power of two or one less: there counts, banks and latches part. */
+static uint8_t any_byte(void) {
+    unsigned bit = below(8);
+    switch (below(8)) {
+    case 0: return (uint8_t)(1u << bit);
+    case 1: return (uint8_t)(255u >> bit);
+    default: return (uint8_t)below(256);
+    }
+}
+
 /* A few bytes of an input changed, and some calls more. */
 static size_t changed_input(uint8_t *bytes, size_t length) {
     unsigned changes = below(6), more = below(MOST_MORE);
     while (changes-- > 0 && length > 0) {
         unsigned place = below((unsigned)length);
-        bytes[place] = (uint8_t)below(256);
+        bytes[place] = any_byte();
     }
-    while (more-- > 0) bytes[length++] = (uint8_t)below(256);
+    while (more-- > 0) bytes[length++] = any_byte();
     return length;
 }
 

@@ -57,9 +57,42 @@ fn both_give_the_same_answers() {
     }
 }
 
+/// As many banks as a register can say, and the greatest counts that a load takes: 128 in board mode, 255 in house mode.
+#[test]
+fn counts_at_their_limits() {
+    let mut numbers = Numbers(3);
+    let of_both = [
+        (NROM, 2, 128),
+        (MMC1, 16, 16),
+        (MMC1, 128, 128),
+        (UXROM, 128, 128),
+        (CNROM, 2, 128),
+        (MMC3, 32, 32),
+        (MMC3, 128, 128),
+    ];
+    let of_house = [
+        (NROM, 2, 255),
+        (MMC1, 255, 255),
+        (UXROM, 129, 0),
+        (UXROM, 255, 255),
+        (CNROM, 2, 255),
+        (MMC3, 255, 255),
+    ];
+    let both = of_both
+        .iter()
+        .flat_map(|counts| BOTH_MODES.map(|mode| (counts, mode)));
+    let house = of_house.iter().map(|counts| (counts, Mode::House));
+    for (&(mapper, prg, chr), mode) in both.chain(house) {
+        let bytes = image(mapper, prg, chr);
+        for _ in 0..3 {
+            play(&bytes, mode, &mut numbers, 2_000);
+        }
+    }
+}
+
 /// House mode takes counts that are no power of two.
 #[test]
-fn odd_counts_in_house_mode() {
+fn no_powers_in_house_mode() {
     let mut numbers = Numbers(2);
     for (mapper, prg, chr) in [(MMC1, 3, 5), (UXROM, 7, 3), (CNROM, 2, 3), (MMC3, 5, 7)] {
         for _ in 0..5 {

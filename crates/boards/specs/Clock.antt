@@ -1,6 +1,6 @@
 -- The public clock.
 use mathlib.Core.Bool.{Bool, true, false, cond}
-use Rattle.common.specs.declared.Refusal.the-variants.{StateOutOfRange}
+use Rattle.common.specs.Answers.{no}
 use Rattle.boards.specs.Registers.{ticked}
 use Rattle.boards.specs.Range.{inRange}
 use Rattle.boards.specs.Write.{withRegisters}
@@ -20,10 +20,10 @@ acceptedClock b =
     let t = ticked (b .cart .mapper) (b .cart .mode) (b .registers) in
     record { board = withRegisters b (t .registers); answer = yesNo (t .yes) }
 
--- refusal 10 is the only one of a clock
+-- the clock of a board that has been judged: 10 unless it may be served, and no other refusal
 abbrev pub clockIf : Bool → Board → Clocked
-clockIf state b = cond state (acceptedClock b) (record { board = b; answer = Refused StateOutOfRange })
+clockIf state b = cond state (acceptedClock b) (record { board = b; answer = Refused (no 10) })
 
--- of a board that is in range
+-- the clock: served exactly where the board is in range
 unfoldable pub clock : Board → Clocked
 clock b = clockIf (inRange b) b

@@ -6,3 +6,4 @@ pub mod Write
 pub mod Clock
 pub mod Runs
 pub mod Numbers
+pub mod Steps

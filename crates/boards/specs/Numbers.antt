@@ -2,6 +2,8 @@
 use Prim.Native.Nat.{ℕ, _+_}
 use Rattle.common.specs.Answers.{refusalNumber, mirroringLetter}
 use Rattle.common.specs.declared.Refusal.{Refusal}
+use Rattle.cartridge.specs.declared.HeaderAnswer.{HeaderAnswer}
+use Rattle.cartridge.specs.declared.HeaderAnswer.the-variants.{Read as HeaderRead, Refused as NoHeader}
 use Rattle.places.specs.declared.ReadAnswer.{ReadAnswer}
 use Rattle.places.specs.declared.ReadAnswer.the-variants.{Byte, Refused as NotRead}
 use Rattle.boards.specs.declared.LoadAnswer.{LoadAnswer}
@@ -15,9 +17,14 @@ use Rattle.boards.specs.declared.ClockAnswer.the-variants.{No, Yes, Refu
 abbrev pub refusedBy : ℕ → ℕ
 refusedBy n = 256 + n
 
--- of a refusal
+-- the answer of any call that is refused
 unfoldable pub refused : Refusal → ℕ
 refused why = refusedBy (refusalNumber why)
+
+-- the header reader: 0 where it reads
+unfoldable pub headerNumber : HeaderAnswer → ℕ
+headerNumber (HeaderRead h) = 0
+headerNumber (NoHeader why) = refused why
 
 -- a read: the byte
 unfoldable pub readNumber : ReadAnswer → ℕ

@@ -1,38 +1,35 @@
 -- "State ranges", and the refusals that come before the board's own: 9 and 10.
 use Prim.Native.Nat.{ℕ}
-use mathlib.Core.Bool.{Bool, true, cond, _&&_}
+use mathlib.Core.Bool.{Bool, true, not, _&&_}
+use mathlib.Core.List.{List, [], _∷_}
 use lib.Dec.{eqb}
 use Rattle.common.specs.Answers.{same, isHeaders}
 use Rattle.common.specs.declared.Mode.{Mode}
 use Rattle.common.specs.declared.Mode.the-variants.{House, Board as OnBoard}
 use Rattle.common.specs.declared.Mirroring.{Mirroring}
-use Rattle.common.specs.declared.Refusal.the-variants.{RamNot8K, StateOutOfRange}
+use Rattle.cartridge.specs.Refusals.{Row, given, first}
 use Rattle.cartridge.specs.Load.{couldLoad}
-use Rattle.cartridge.specs.Mappers.{isMapper}
-use Rattle.cartridge.specs.declared.Cartridge.{Cartridge}
 use Rattle.cartridge.specs.declared.MapperType.{MapperType}
-use Rattle.cartridge.specs.declared.MapperType.the-variants.{Mmc1, Mmc3}
+use Rattle.cartridge.specs.declared.MapperType.the-variants.{Nrom, Mmc1, Uxrom, Cnrom, Mmc3}
+use Rattle.cartridge.specs.declared.Verdict.{Verdict}
+use Rattle.cartridge.specs.declared.Verdict.the-variants.{Take, Refuse}
 use Rattle.places.specs.declared.Landing.{Landing}
 use Rattle.places.specs.declared.Landing.the-variants.{Refused}
 use Rattle.boards.specs.Registers.{fits}
 use Rattle.boards.specs.declared.Board.{Board}
 
--- "in board mode: any of the four on MMC1, horizontal or vertical on MMC3"
-unfoldable pub turnedFit : MapperType → Bool → Bool → Bool
-turnedFit k same headers = cond (isMapper k Mmc1) true (cond (isMapper k Mmc3) headers same)
+-- "Current mirroring equals the header's, except in board mode: any of the four on MMC1, horizontal or vertical on MMC3"
+unfoldable pub screensFit : Mode → MapperType → Mirroring → Mirroring → Bool
+screensFit House k headers now = same now headers
+screensFit OnBoard Nrom headers now = same now headers
+screensFit OnBoard Mmc1 headers now = true
+screensFit OnBoard Uxrom headers now = same now headers
+screensFit OnBoard Cnrom headers now = same now headers
+screensFit OnBoard Mmc3 headers now = isHeaders now
 
--- "Current mirroring equals the header's, except in board mode"
-unfoldable pub screensFit : Mode → MapperType → Bool → Bool → Bool
-screensFit House k same headers = same
-screensFit OnBoard k same headers = turnedFit k same headers
-
--- that sentence, of a cartridge and the current mirroring
-abbrev pub screensKept : Cartridge → Mirroring → Bool
-screensKept c now = screensFit (c .mode) (c .mapper) (same now (c .mirroring)) (isHeaders now)
-
--- that sentence, of a board
+-- the current mirroring of a board is in that range
 unfoldable pub mirroringFits : Board → Bool
-mirroringFits b = screensKept (b .cart) (b .mirroring)
+mirroringFits b = screensFit (b .cart .mode) (b .cart .mapper) (b .cart .mirroring) (b .mirroring)
 
 -- refusal 10: "a state field is out of its range"
 unfoldable pub inRange : Board → Bool
@@ -42,6 +39,18 @@ inRange b = couldLoad (b .cart) && fits (b .cart .mapper) (b .registers) && mirr
 unfoldable pub isLoaded : Board → ℕ → Bool
 isLoaded b length = inRange b && eqb length (b .cart .length)
 
--- "In read and write: 9, 10, then the board's own"
+-- "In read and write: 9, 10, then the board's own": the two that come before it
+abbrev pub callRefusals : Bool → Bool → List Row
+callRefusals rams state =
+    given 9 (not rams)
+    ∷ given 10 (not state)
+    ∷ []
+
+-- where an address lands, unless a refusal is given
+abbrev pub unlessRefused : Verdict → Landing → Landing
+unlessRefused Take l = l
+unlessRefused (Refuse why) l = Refused why
+
+-- where an address lands: unless 9 or 10 is given, where the board itself says, which may be a refusal of its own
 unfoldable pub guarded : Bool → Bool → Landing → Landing
-guarded rams state l = cond rams (cond state l (Refused StateOutOfRange)) (Refused RamNot8K)
+guarded rams state l = unlessRefused (first (callRefusals rams state)) l

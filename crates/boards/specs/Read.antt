@@ -28,7 +28,7 @@ readWindowOn Uxrom r c a = uxrom.readWindow (r .uxrom) c a
 readWindowOn Cnrom r c a = cnrom.readWindow (r .cnrom) c a
 readWindowOn Mmc3 r c a = mmc3.readWindow (r .mmc3) c a
 
--- where it lands, on the board of the mapper that the cartridge names
+-- where a read lands, on the board of the mapper that the cartridge names
 unfoldable pub readLanding : Board → ℕ → Landing
 readLanding b a = landsIn (b .cart) (readWindowOn (b .cart .mapper) (b .registers) (b .cart) a) a
 
@@ -37,6 +37,6 @@ abbrev pub readIf : Bool → Board → List ℕ → List ℕ → List ℕ → �
 readIf state b image prg chr a =
     answerAt (guarded (ramsFit (length prg) (length chr)) state (readLanding b a)) (byteAt (b .cart) (readLanding b a) image prg chr)
 
--- of a board that is in range and has this image
+-- the read: served exactly where the board is in range and has this image
 unfoldable pub read : Board → List ℕ → List ℕ → List ℕ → ℕ → ReadAnswer
 read b image prg chr a = readIf (isLoaded b (length image)) b image prg chr a

@@ -22,19 +22,19 @@ use Rattle.boards.specs.declared.Registers.{Registers}
 use Rattle.boards.specs.declared.Moved.{Moved}
 use Rattle.boards.specs.declared.Ticked.{Ticked}
 
--- with another UxROM bank
+-- registers with another UxROM bank
 abbrev pub withUxrom : Registers → uxrom-type.Uxrom → Registers
 withUxrom r u = record { uxrom = u; cnrom = r .cnrom; mmc1 = r .mmc1; mmc3 = r .mmc3 }
 
--- with another CNROM bank
+-- registers with another CNROM bank
 abbrev pub withCnrom : Registers → cnrom-type.Cnrom → Registers
 withCnrom r u = record { uxrom = r .uxrom; cnrom = u; mmc1 = r .mmc1; mmc3 = r .mmc3 }
 
--- with other MMC1 registers
+-- registers with others for MMC1
 abbrev pub withMmc1 : Registers → mmc1-type.Mmc1 → Registers
 withMmc1 r m = record { uxrom = r .uxrom; cnrom = r .cnrom; mmc1 = m; mmc3 = r .mmc3 }
 
--- with other MMC3 registers
+-- registers with others for MMC3
 abbrev pub withMmc3 : Registers → mmc3-type.Mmc3 → Registers
 withMmc3 r m = record { uxrom = r .uxrom; cnrom = r .cnrom; mmc1 = r .mmc1; mmc3 = m }
 
@@ -50,7 +50,7 @@ start k = record { uxrom = uxrom.start; cnrom = cnrom.start; mmc1 = mmc1Start k;
 unfoldable pub partFits : MapperType → MapperType → Bool → Bool → Bool
 partFits k owner inRange atStart = cond (isMapper k owner) inRange atStart
 
--- every part of a mapper's registers
+-- every part of the registers is in its range, or at its start
 unfoldable pub fits : MapperType → Registers → Bool
 fits k r =
     partFits k Uxrom true (uxrom.isStart (r .uxrom))
@@ -70,7 +70,7 @@ moved Uxrom mode r v a = asking (withUxrom r (uxrom.written (r .uxrom) v a)) AsB
 moved Cnrom mode r v a = asking (withCnrom r (cnrom.written (r .cnrom) v a)) AsBefore
 moved Mmc3 mode r v a = let w = mmc3-write.written (r .mmc3) v a in asking (withMmc3 r (w .mmc3)) (w .mirrors)
 
--- after a clock of MMC3, whose unit moves and answers
+-- the registers after a clock of MMC3, whose unit moves and answers
 abbrev pub mmc3Ticked : Mode → Registers → Ticked
 mmc3Ticked mode r = let t = mmc3-clock.clocked mode (r .mmc3) in record { registers = withMmc3 r (t .mmc3); yes = t .answer }
 

@@ -40,7 +40,7 @@ writeWindowOn Uxrom r c a = uxrom.writeWindow (r .uxrom) c a
 writeWindowOn Cnrom r c a = cnrom.writeWindow (r .cnrom) c a
 writeWindowOn Mmc3 r c a = mmc3.writeWindow (r .mmc3) c a
 
--- where it lands, on the board of the mapper that the cartridge names
+-- where a write lands, on the board of the mapper that the cartridge names
 unfoldable pub writeLanding : Board → ℕ → Landing
 writeLanding b a = landsIn (b .cart) (writeWindowOn (b .cart .mapper) (b .registers) (b .cart) a) a
 
@@ -49,7 +49,7 @@ unfoldable pub againstIn : Mode → Mirroring → Mirroring → Mirroring
 againstIn House headers now = headers
 againstIn OnBoard headers now = now
 
--- of the mode that the cartridge has
+-- what a board's notices compare with, in the mode that its cartridge has
 abbrev pub against : Board → Mirroring
 against b = againstIn (b .cart .mode) (b .cart .mirroring) (b .mirroring)
 
@@ -93,7 +93,7 @@ writtenAs b (Refused why) v a = record { board = b; answer = NotWritten why }
 abbrev pub landingIf : Bool → Board → List ℕ → List ℕ → ℕ → Landing
 landingIf state b prg chr a = guarded (ramsFit (length prg) (length chr)) state (writeLanding b a)
 
--- of a board that is in range and has this image
+-- where the byte of a write lands: served exactly where the board is in range and has this image
 unfoldable pub landing : Board → List ℕ → List ℕ → List ℕ → ℕ → Landing
 landing b image prg chr a = landingIf (isLoaded b (length image)) b prg chr a
 
@@ -103,10 +103,10 @@ pub record Writes (b : Board) (l : Landing) (prg chr : List ℕ) (a v : ℕ) (r 
   pub prg-ram : prg′ ≡ storedPrg l v prg
   pub chr-ram : chr′ ≡ storedChr l v chr
 
--- where the state has been judged
+-- what a write owes where the state has been judged
 abbrev pub WritesIf : Bool → Board → List ℕ → List ℕ → ℕ → ℕ → Written → List ℕ → List ℕ → Type 0
 WritesIf state b prg chr a v r prg′ chr′ = Writes b (landingIf state b prg chr a) prg chr a v r prg′ chr′
 
--- what a write owes
+-- what the write owes its caller
 abbrev pub WriteOwes : Board → List ℕ → List ℕ → List ℕ → ℕ → ℕ → Written → List ℕ → List ℕ → Type 0
 WriteOwes b image prg chr a v r prg′ chr′ = Writes b (landing b image prg chr a) prg chr a v r prg′ chr′

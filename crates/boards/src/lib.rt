@@ -3,8 +3,9 @@
 ghost use mathlib.Core.Path.{_≡_};
 ghost use Rattle.places.specs.Places.{byteAt};
 ghost use Rattle.boards.specs.Registers.{mmc1Start, start, partFits, fits, asking, moved, ticked};
-ghost use Rattle.boards.specs.Start.{startOf, nothing, loadedBoard, LoadOwes};
-ghost use Rattle.boards.specs.Range.{turnedFit, screensFit, screensKept, inRange, isLoaded, guarded};
+ghost use Rattle.boards.specs.Start.{startOf, noBoard, loadedBoard, LoadOwes};
+ghost use Rattle.boards.specs.Range.{inRange, isLoaded, guarded};
+ghost use Rattle.boards.specs.Steps.{turnedFit, screensBy, screensTested};
 ghost use Rattle.boards.specs.Read.{readLanding, readIf, read};
 ghost use Rattle.boards.specs.Write.{writeLanding, against, nextMirroring, noticeUnless, notice, turned, acceptedWrite, writtenAs, WritesIf, WriteOwes};
 ghost use Rattle.boards.specs.Clock.{yesNo, acceptedClock, clockIf, clock};
@@ -221,7 +222,7 @@ fn for_cart(cart: Cartridge) -> Board
 
 // What stands beside a refused load. Every call refuses it.
 pub fn no_board() -> Board
-    ensures { λ r. ⌜ r ≡ nothing ⌝ }
+    ensures { λ r. ⌜ r ≡ noBoard ⌝ }
 {
     for_cart(Cartridge {
         mode: Mode::House,
@@ -325,8 +326,8 @@ pub fn turned_fit(mapper: MapperType, same: bool, headers: bool) -> bool
 }
 
 // House mode keeps the header's; on the real board MMC1 chooses among four and MMC3 between two.
-fn screens_fit(mode: Mode, mapper: MapperType, same: bool, headers: bool) -> bool
-    ensures { λ r. ⌜ r ≡ screensFit mode mapper same headers ⌝ }
+fn screens_by(mode: Mode, mapper: MapperType, same: bool, headers: bool) -> bool
+    ensures { λ r. ⌜ r ≡ screensBy mode mapper same headers ⌝ }
 {
     match mode {
         Mode::House => same,
@@ -335,13 +336,13 @@ fn screens_fit(mode: Mode, mapper: MapperType, same: bool, headers: bool) -> boo
 }
 
 // What a cartridge's board may have as its current mirroring.
-pub fn screens_kept(cart: Cartridge, now: Mirroring) -> bool
-    ensures { λ r. ⌜ r ≡ screensKept cart now ⌝ }
+pub fn screens_fit(cart: Cartridge, now: Mirroring) -> bool
+    ensures { λ r. ⌜ r ≡ screensTested cart now ⌝ }
 {
     let header = cart.mirroring;
     let mode = cart.mode;
     let mapper = cart.mapper;
-    screens_fit(mode, mapper, now.same(header), now.is_headers())
+    screens_by(mode, mapper, now.same(header), now.is_headers())
 }
 
 impl Board {
@@ -353,7 +354,7 @@ impl Board {
         let mapper = cart.mapper;
         let registers = self.registers;
         let now = self.mirroring;
-        cart.could_load() & registers.fits(mapper) & screens_kept(cart, now)
+        cart.could_load() & registers.fits(mapper) & screens_fit(cart, now)
     }
 
     fn is_loaded(self, length: usize) -> bool

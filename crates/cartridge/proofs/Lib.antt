@@ -1,2 +1,3 @@
 pub mod Mappers
+pub mod Order
 pub mod OneBit

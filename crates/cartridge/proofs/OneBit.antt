@@ -11,8 +11,8 @@ use Rattle.rules.proofs.Bools.{and-left, and-right}
 use Rattle.common.specs.Answers.{isHeaders}
 use Rattle.common.specs.declared.Mode.{Mode}
 use Rattle.common.specs.declared.Mode.the-variants.{House, Board}
-use Rattle.cartridge.specs.Load.{isPower, oddCounts, badPrg, needed, couldLoad}
-use Rattle.cartridge.specs.Steps.{hasOneBit, oddBits}
+use Rattle.cartridge.specs.Load.{isPower, noPowers, badPrg, needed, couldLoad}
+use Rattle.cartridge.specs.Steps.{hasOneBit, notOneBit}
 use Rattle.cartridge.specs.Mappers.{mapperNumber}
 use Rattle.cartridge.specs.declared.Cartridge.{Cartridge}
 
@@ -55,10 +55,10 @@ one-of-eight n l =
     ap (λ (m : ℕ). eqb m 1) (bits 8 n l)
     ∙ alike-is (eqb (onesIn 8 n) 1) (isPower n) (at (λ (k : ℕ). alike (eqb (onesIn 8 k) 1) (isPower k)) 256 n l computed)
 
-same-odd : (mode : Mode) (prg chr : ℕ) → prg < 256 → chr < 256 → oddBits mode prg chr ≡ oddCounts mode prg chr
-unfolding oddBits oddCounts
-same-odd House prg chr p c = refl
-same-odd Board prg chr p c =
+same-powers : (mode : Mode) (prg chr : ℕ) → prg < 256 → chr < 256 → notOneBit mode prg chr ≡ noPowers mode prg chr
+unfolding notOneBit noPowers
+same-powers House prg chr p c = refl
+same-powers Board prg chr p c =
     ap₂ (λ (x y : Bool). not x || (not (eqb chr 0) && not y)) (one-of-eight prg p) (one-of-eight chr c)
 
 none : (x : Bool) → (x && false) ≡ false
@@ -66,18 +66,18 @@ none true = refl
 none false = refl
 
 beside : (mode : Mode) (prg chr : ℕ) (x y z : Bool)
-    → ((x && not (oddBits mode prg chr)) && (ltb prg 256 && ltb chr 256 && y) && z) ≡ ((x && not (oddCounts mode prg chr)) && (ltb prg 256 && ltb chr 256 && y) && z)
+    → ((x && not (notOneBit mode prg chr)) && (ltb prg 256 && ltb chr 256 && y) && z) ≡ ((x && not (noPowers mode prg chr)) && (ltb prg 256 && ltb chr 256 && y) && z)
 beside mode prg chr x y z = go (ltb prg 256) (ltb chr 256) refl refl
   where
     go : (p c : Bool) → ltb prg 256 ≡ p → ltb chr 256 ≡ c
-        → ((x && not (oddBits mode prg chr)) && (ltb prg 256 && ltb chr 256 && y) && z) ≡ ((x && not (oddCounts mode prg chr)) && (ltb prg 256 && ltb chr 256 && y) && z)
-    go true true p c = rw (same-odd mode prg chr (ltb-true prg 256 p) (ltb-true chr 256 c)) refl
-    go true false p c = rw (p, c, none (x && not (oddBits mode prg chr)), none (x && not (oddCounts mode prg chr))) refl
-    go false c p e = rw (p, none (x && not (oddBits mode prg chr)), none (x && not (oddCounts mode prg chr))) refl
+        → ((x && not (notOneBit mode prg chr)) && (ltb prg 256 && ltb chr 256 && y) && z) ≡ ((x && not (noPowers mode prg chr)) && (ltb prg 256 && ltb chr 256 && y) && z)
+    go true true p c = rw (same-powers mode prg chr (ltb-true prg 256 p) (ltb-true chr 256 c)) refl
+    go true false p c = rw (p, c, none (x && not (notOneBit mode prg chr)), none (x && not (noPowers mode prg chr))) refl
+    go false c p e = rw (p, none (x && not (notOneBit mode prg chr)), none (x && not (noPowers mode prg chr))) refl
 
 -- beside the test that both are below 256, either test of the counts says the same
 pub by-bits : (c : Cartridge)
-    → ((not (badPrg (mapperNumber (c .mapper)) (c .prg)) && not (oddBits (c .mode) (c .prg) (c .chr)))
+    → ((not (badPrg (mapperNumber (c .mapper)) (c .prg)) && not (notOneBit (c .mode) (c .prg) (c .chr)))
     && (ltb (c .prg) 256 && ltb (c .chr) 256 && leb (needed (c .prg) (c .chr)) (c .length))
     && isHeaders (c .mirroring))
     ≡ couldLoad c

@@ -1,15 +1,17 @@
 -- The header: document 01, "Header (000, iNES)".
 use Prim.Native.Nat.{ℕ, _+_, _*_, _/_, _%_}
 use mathlib.Core.Bool.{Bool, cond, not, _&&_}
-use mathlib.Core.List.{List}
+use mathlib.Core.List.{List, [], _∷_}
 use lib.Dec.{ltb, eqb}
 use lib.ListN.{length}
 use Rattle.common.specs.Common.{KB8, KB16}
-use Rattle.common.specs.declared.Refusal.the-variants.{HeaderTooShort, HeaderNotInes}
 use Rattle.common.specs.declared.Mirroring.{Mirroring}
 use Rattle.common.specs.declared.Mirroring.the-variants.{Horizontal, Vertical}
 use Rattle.memory.specs.Memory.{byte}
+use Rattle.cartridge.specs.Refusals.{Row, given, first}
 use Rattle.cartridge.specs.declared.Header.{Header}
+use Rattle.cartridge.specs.declared.Verdict.{Verdict}
+use Rattle.cartridge.specs.declared.Verdict.the-variants.{Take, Refuse}
 use Rattle.cartridge.specs.declared.HeaderAnswer.{HeaderAnswer}
 use Rattle.cartridge.specs.declared.HeaderAnswer.the-variants.{Read, Refused}
 
@@ -35,13 +37,21 @@ headerOf s =
       flags15 = byte s 15;
     }
 
--- refusal 1 before refusal 2
-unfoldable pub headerAnswer : Bool → Bool → Header → HeaderAnswer
-headerAnswer short ines h = cond short (Refused HeaderTooShort) (cond ines (Read h) (Refused HeaderNotInes))
+-- "header reader": 1 "fewer than 16 bytes", 2 "bytes 0-3 are not 4E 45 53 1A"
+abbrev pub headerRefusals : List ℕ → List Row
+headerRefusals s =
+    given 1 (ltb (length s) 16)
+    ∷ given 2 (not (isInes s))
+    ∷ []
 
--- refusal 1: "fewer than 16 bytes"
+-- "A refusal yields its number only"
+unfoldable pub headerAs : Verdict → Header → HeaderAnswer
+headerAs Take h = Read h
+headerAs (Refuse why) h = Refused why
+
+-- the header reader
 unfoldable pub headerRead : List ℕ → HeaderAnswer
-headerRead s = headerAnswer (ltb (length s) 16) (isInes s) (headerOf s)
+headerRead s = headerAs (first (headerRefusals s)) (headerOf s)
 
 -- "`total_size_excluding_header` is the sum of both in bytes"
 abbrev pub totalSize : Header → ℕ

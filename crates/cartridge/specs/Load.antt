@@ -2,15 +2,15 @@
 use Prim.Native.Nat.{ℕ, _+_, _-_, _*_}
 use mathlib.Core.Path.{_≡_}
 use mathlib.Core.Bool.{Bool, false, cond, not, _&&_, _||_}
-use mathlib.Core.List.{List}
+use mathlib.Core.List.{List, [], _∷_}
 use lib.Dec.{ltb, leb, eqb}
 use lib.ListN.{length, replicate}
 use Rattle.common.specs.Common.{KB8, KB16}
 use Rattle.common.specs.Answers.{isHeaders}
 use Rattle.common.specs.declared.Mode.{Mode}
 use Rattle.common.specs.declared.Mode.the-variants.{House, Board}
-use Rattle.common.specs.declared.Refusal.the-variants.{ImageNotInes, MapperNotTaken, TrainerOrFourScreen, PrgCountNotTaken, ImageTooShort, CountNoPowerOfTwo, RamNot8K}
 use Rattle.memory.specs.Memory.{tail}
+use Rattle.cartridge.specs.Refusals.{Row, given, first}
 use Rattle.cartridge.specs.Header.{isInes, headerOf, mapperOf, mirroringOf, isNes2, isSpecial}
 use Rattle.cartridge.specs.Mappers.{mapperNumber, mapperType}
 use Rattle.cartridge.specs.declared.Header.{Header}
@@ -33,40 +33,33 @@ abbrev pub needed : ℕ → ℕ → ℕ
 needed prg chr = 16 + prg * KB16 + chr * KB8
 
 -- refusal 8, board mode: "PRG count, or a nonzero CHR count, is no power of two"
-unfoldable pub oddCounts : Mode → ℕ → ℕ → Bool
-oddCounts House prg chr = false
-oddCounts Board prg chr = not (isPower prg) || (not (eqb chr 0) && not (isPower chr))
+unfoldable pub noPowers : Mode → ℕ → ℕ → Bool
+noPowers House prg chr = false
+noPowers Board prg chr = not (isPower prg) || (not (eqb chr 0) && not (isPower chr))
 
--- "Order in load: 9, 3, 4, 5, 6, 7, 8"
-unfoldable pub firstOf : Bool → Bool → Bool → Bool → Bool → Bool → Bool → Verdict
-firstOf b9 b3 b4 b5 b6 b7 b8 =
-    cond b9 (Refuse RamNot8K)
-    (cond b3 (Refuse ImageNotInes)
-    (cond b4 (Refuse MapperNotTaken)
-    (cond b5 (Refuse TrainerOrFourScreen)
-    (cond b6 (Refuse PrgCountNotTaken)
-    (cond b7 (Refuse ImageTooShort)
-    (cond b8 (Refuse CountNoPowerOfTwo) Take))))))
-
--- when each refusal is given: the table "Numbers of refusal", rows 3 to 9
-unfoldable pub verdictOn : Header → Bool → ℕ → Mode → Bool → Verdict
-verdictOn h ines len mode rams =
-    firstOf
-    (not rams)
-    (ltb len 16400 || not ines)
-    (ltb 4 (mapperOf h))
-    (isSpecial h)
-    (badPrg (mapperOf h) (h .prg))
-    (ltb len (needed (h .prg) (h .chr)))
-    (oddCounts mode (h .prg) (h .chr))
-
--- refusal 9: "a lent RAM is not exactly 8,192 bytes"
+-- refusal 9: "a lent RAM is not exactly 8,192 bytes"; of the lengths of both
 unfoldable pub ramsFit : ℕ → ℕ → Bool
 ramsFit prg chr = eqb prg 8192 && eqb chr 8192
 
--- of an image, a mode and the lengths of the RAMs
+-- "Order in load: 9, 3, 4, 5, 6, 7, 8"; of an image, a mode and the lengths of the RAMs
+abbrev pub loadRefusals : List ℕ → Mode → ℕ → ℕ → List Row
+loadRefusals s mode prg chr =
+    let h = headerOf s in
+    given 9 (not (ramsFit prg chr))
+    -- "fewer than 16,400 bytes, or bytes 0-3 wrong"
+    ∷ given 3 (ltb (length s) 16400 || not (isInes s))
+    -- "mapper above 4"
+    ∷ given 4 (ltb 4 (mapperOf h))
+    ∷ given 5 (isSpecial h)
+    ∷ given 6 (badPrg (mapperOf h) (h .prg))
+    -- "image shorter than 16 + 16,384 x PRG + 8,192 x CHR"
+    ∷ given 7 (ltb (length s) (needed (h .prg) (h .chr)))
+    ∷ given 8 (noPowers mode (h .prg) (h .chr))
+    ∷ []
+
+-- what a load decides
 unfoldable pub verdict : List ℕ → Mode → ℕ → ℕ → Verdict
-verdict s mode prg chr = verdictOn (headerOf s) (isInes s) (length s) mode (ramsFit prg chr)
+verdict s mode prg chr = first (loadRefusals s mode prg chr)
 
 -- what an accepted load keeps of the image
 unfoldable pub cartridgeOf : Header → Mode → ℕ → Cartridge
@@ -86,6 +79,10 @@ unfoldable pub loadedAs : Verdict → Cartridge → Loaded
 loadedAs Take c = Accepted c
 loadedAs (Refuse why) c = Refused why
 
+-- the load of an image: the cartridge, or the refusal
+abbrev pub load : List ℕ → Mode → ℕ → ℕ → Loaded
+load s mode prg chr = loadedAs (verdict s mode prg chr) (cartridgeOf (headerOf s) mode (length s))
+
 -- "An accepted load fills both RAMs with zero"; after a refusal they hold what they held
 unfoldable pub ramAfter : Verdict → List ℕ → List ℕ
 ramAfter Take ram = replicate (length ram) 0
@@ -93,7 +90,7 @@ ramAfter (Refuse why) ram = ram
 
 -- what a load owes its caller: the reply and both RAMs
 pub record LoadOwes (s : List ℕ) (mode : Mode) (prg chr : List ℕ) (r : Loaded) (prg′ chr′ : List ℕ) : Type 0 where
-  pub reply : r ≡ loadedAs (verdict s mode (length prg) (length chr)) (cartridgeOf (headerOf s) mode (length s))
+  pub reply : r ≡ load s mode (length prg) (length chr)
   pub prg-ram : prg′ ≡ ramAfter (verdict s mode (length prg) (length chr)) prg
   pub chr-ram : chr′ ≡ ramAfter (verdict s mode (length prg) (length chr)) chr
 
@@ -128,6 +125,6 @@ chrData c image ram = cond (hasChrRam c) ram (chrRom c image)
 -- state ranges: "Mapper, counts, length and mirroring as a load could leave them"
 unfoldable pub couldLoad : Cartridge → Bool
 couldLoad c =
-    (not (badPrg (mapperNumber (c .mapper)) (c .prg)) && not (oddCounts (c .mode) (c .prg) (c .chr)))
+    (not (badPrg (mapperNumber (c .mapper)) (c .prg)) && not (noPowers (c .mode) (c .prg) (c .chr)))
     && (ltb (c .prg) 256 && ltb (c .chr) 256 && leb (needed (c .prg) (c .chr)) (c .length))
     && isHeaders (c .mirroring)

@@ -1,16 +1,51 @@
--- What the code tests in place of a definition; `OneBit` of proofs/ joins the two.
+-- What the code tests in place of a definition; `Order` and `OneBit` of proofs/ join the two.
 use Prim.Native.Nat.{ℕ}
-use mathlib.Core.Bool.{Bool, false, not, _&&_, _||_}
+use mathlib.Core.Bool.{Bool, false, cond, not, _&&_, _||_}
 use lib.Count.{ones}
-use lib.Dec.{eqb}
+use lib.Dec.{ltb, eqb}
 use Rattle.common.specs.declared.Mode.{Mode}
 use Rattle.common.specs.declared.Mode.the-variants.{House, Board}
+use Rattle.common.specs.declared.Refusal.the-variants.{HeaderTooShort, HeaderNotInes, ImageNotInes, MapperNotTaken, TrainerOrFourScreen, PrgCountNotTaken, ImageTooShort, CountNoPowerOfTwo, RamNot8K}
+use Rattle.cartridge.specs.Header.{mapperOf, isSpecial}
+use Rattle.cartridge.specs.Load.{badPrg, needed, noPowers}
+use Rattle.cartridge.specs.declared.Header.{Header}
+use Rattle.cartridge.specs.declared.HeaderAnswer.{HeaderAnswer}
+use Rattle.cartridge.specs.declared.HeaderAnswer.the-variants.{Read, Refused}
+use Rattle.cartridge.specs.declared.Verdict.{Verdict}
+use Rattle.cartridge.specs.declared.Verdict.the-variants.{Take, Refuse}
+
+-- the header reader's two refusals by their tests
+unfoldable pub headerAnswer : Bool → Bool → Header → HeaderAnswer
+headerAnswer short ines h = cond short (Refused HeaderTooShort) (cond ines (Read h) (Refused HeaderNotInes))
+
+-- the load's seven by theirs
+unfoldable pub firstOf : Bool → Bool → Bool → Bool → Bool → Bool → Bool → Verdict
+firstOf b9 b3 b4 b5 b6 b7 b8 =
+    cond b9 (Refuse RamNot8K)
+    (cond b3 (Refuse ImageNotInes)
+    (cond b4 (Refuse MapperNotTaken)
+    (cond b5 (Refuse TrainerOrFourScreen)
+    (cond b6 (Refuse PrgCountNotTaken)
+    (cond b7 (Refuse ImageTooShort)
+    (cond b8 (Refuse CountNoPowerOfTwo) Take))))))
+
+-- the tests, of a header that has been read
+unfoldable pub verdictOn : Header → Bool → ℕ → Mode → Bool → Verdict
+verdictOn h ines len mode rams =
+    firstOf
+    (not rams)
+    (ltb len 16400 || not ines)
+    (ltb 4 (mapperOf h))
+    (isSpecial h)
+    (badPrg (mapperOf h) (h .prg))
+    (ltb len (needed (h .prg) (h .chr)))
+    (noPowers mode (h .prg) (h .chr))
 
 -- one bit of a number is 1
 unfoldable pub hasOneBit : ℕ → Bool
 hasOneBit n = eqb (ones n) 1
 
--- counts that board mode refuses, by their one bits
-unfoldable pub oddBits : Mode → ℕ → ℕ → Bool
-oddBits House prg chr = false
-oddBits Board prg chr = not (hasOneBit prg) || (not (eqb chr 0) && not (hasOneBit chr))
+-- counts that board mode refuses, by their bits
+unfoldable pub notOneBit : Mode → ℕ → ℕ → Bool
+notOneBit House prg chr = false
+notOneBit Board prg chr = not (hasOneBit prg) || (not (eqb chr 0) && not (hasOneBit chr))

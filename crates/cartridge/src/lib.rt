@@ -3,9 +3,9 @@ ghost use mathlib.Core.Path.{_≡_};
 ghost use Prim.Native.Nat.{_+_, _*_};
 ghost use lib.ListN.{length};
 ghost use Rattle.cartridge.specs.Mappers.{mapperNumber, isMapper, mapperType};
-ghost use Rattle.cartridge.specs.Header.{isInes, headerOf, headerAnswer, headerRead, totalSize, mapperOf, mirroringOf, isNes2, isSpecial};
-ghost use Rattle.cartridge.specs.Load.{isPower, oddCounts, badPrg, needed, firstOf, verdictOn, ramsFit, verdict, cartridgeOf, loadedAs, ramAfter, LoadOwes, prgTotal, hasChrRam, chrTotal, prgRom, chrRom, chrData, lastPrg, couldLoad};
-ghost use Rattle.cartridge.specs.Steps.{hasOneBit, oddBits};
+ghost use Rattle.cartridge.specs.Header.{isInes, headerOf, headerRead, totalSize, mapperOf, mirroringOf, isNes2, isSpecial};
+ghost use Rattle.cartridge.specs.Load.{isPower, noPowers, badPrg, needed, ramsFit, verdict, cartridgeOf, loadedAs, ramAfter, LoadOwes, prgTotal, hasChrRam, chrTotal, prgRom, chrRom, chrData, lastPrg, couldLoad};
+ghost use Rattle.cartridge.specs.Steps.{headerAnswer, firstOf, verdictOn, hasOneBit, notOneBit};
 use common::Mirroring;
 use common::Mode;
 use common::Refusal;
@@ -252,7 +252,7 @@ impl Cartridge {
         let mapper = self.mapper;
         let mode = self.mode;
         let mirroring = self.mirroring;
-        let counts = !bad_prg(mapper.number(), self.prg) & !odd_bits(mode, self.prg, self.chr);
+        let counts = !bad_prg(mapper.number(), self.prg) & !not_one_bit(mode, self.prg, self.chr);
         let size = (self.prg < 256)
             & (self.chr < 256)
             & ((needed(self.prg, self.chr) as usize) <= self.length);
@@ -277,8 +277,8 @@ fn is_power_of_two(n: u16) -> bool
 }
 
 // Refusal 8: a PRG count, or a CHR count that is not 0, is no power of two. Board mode only.
-fn odd_counts(mode: Mode, prg: u16, chr: u16) -> bool
-    ensures { λ r. ⌜ r ≡ oddCounts mode prg chr ⌝ }
+fn no_powers(mode: Mode, prg: u16, chr: u16) -> bool
+    ensures { λ r. ⌜ r ≡ noPowers mode prg chr ⌝ }
 {
     match mode {
         Mode::House => false,
@@ -294,8 +294,8 @@ fn has_one_bit(n: u16) -> bool
 
 // The same of counts up to 255, without the list, for a range that every call judges: a power of two
 // has one bit.
-fn odd_bits(mode: Mode, prg: u16, chr: u16) -> bool
-    ensures { λ r. ⌜ r ≡ oddBits mode prg chr ⌝ }
+fn not_one_bit(mode: Mode, prg: u16, chr: u16) -> bool
+    ensures { λ r. ⌜ r ≡ notOneBit mode prg chr ⌝ }
 {
     match mode {
         Mode::House => false,
@@ -353,7 +353,7 @@ fn verdict_on(h: Header, ines: bool, len: usize, mode: Mode, rams: bool) -> Verd
     let prg = h.prg as u16;
     let chr = h.chr as u16;
     let short = len < (needed(prg, chr) as usize);
-    let odd = odd_counts(mode, prg, chr);
+    let counts = no_powers(mode, prg, chr);
     first_of(
         !rams,
         (len < 16400) | !ines,
@@ -361,7 +361,7 @@ fn verdict_on(h: Header, ines: bool, len: usize, mode: Mode, rams: bool) -> Verd
         h.is_special(),
         bad_prg(mapper, prg),
         short,
-        odd,
+        counts,
     )
 }
 

@@ -92,7 +92,7 @@ impl Cnrom {
         let mode = cart.mode;
         match mode {
             Mode::House => house_write_landing(cart, address),
-            Mode::Board => self.board_read_landing(cart, address),
+            Mode::Board => places::board_chr_ram(cart, Bank8K(self.bank as u32), address),
         }
     }
 

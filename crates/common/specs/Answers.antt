@@ -1,6 +1,6 @@
 -- The paper's number or letter for each refusal and mirroring.
 use Prim.Native.Nat.{ℕ}
-use mathlib.Core.Bool.{Bool, true, false}
+use mathlib.Core.Bool.{Bool, true, false, cond}
 use lib.Dec.{eqb}
 use Rattle.common.specs.declared.Refusal.{Refusal}
 use Rattle.common.specs.declared.Refusal.the-variants.{HeaderTooShort, HeaderNotInes, ImageNotInes, MapperNotTaken, TrainerOrFourScreen, PrgCountNotTaken, ImageTooShort, CountNoPowerOfTwo, RamNot8K, StateOutOfRange, BankPastData, NoChrRam, NoSuchPlace, IrqPending, TraceMalformed}
@@ -25,6 +25,24 @@ refusalNumber NoSuchPlace = 13
 refusalNumber IrqPending = 14
 refusalNumber TraceMalformed = 15
 
+-- the refusal that the table has under a number from 1 to 15: definitions name refusals by it
+abbrev pub no : ℕ → Refusal
+no n =
+    cond (eqb n 1) HeaderTooShort
+    (cond (eqb n 2) HeaderNotInes
+    (cond (eqb n 3) ImageNotInes
+    (cond (eqb n 4) MapperNotTaken
+    (cond (eqb n 5) TrainerOrFourScreen
+    (cond (eqb n 6) PrgCountNotTaken
+    (cond (eqb n 7) ImageTooShort
+    (cond (eqb n 8) CountNoPowerOfTwo
+    (cond (eqb n 9) RamNot8K
+    (cond (eqb n 10) StateOutOfRange
+    (cond (eqb n 11) BankPastData
+    (cond (eqb n 12) NoChrRam
+    (cond (eqb n 13) NoSuchPlace
+    (cond (eqb n 14) IrqPending TraceMalformed)))))))))))))
+
 -- trace: "a notice letter H, V, U (upper), L (lower)"
 abbrev pub mirroringLetter : Mirroring → ℕ
 mirroringLetter Horizontal = 0x48
@@ -32,13 +50,20 @@ mirroringLetter Vertical = 0x56
 mirroringLetter SingleScreenUpper = 0x55
 mirroringLetter SingleScreenLower = 0x4C
 
+-- one of four, by the mirroring
+abbrev pub among : {A : Type 0} → A → A → A → A → Mirroring → A
+among h v u l Horizontal = h
+among h v u l Vertical = v
+among h v u l SingleScreenUpper = u
+among h v u l SingleScreenLower = l
+
 -- whether two mirrorings are one
 unfoldable pub same : Mirroring → Mirroring → Bool
-same a b = eqb (mirroringLetter a) (mirroringLetter b)
+same Horizontal m = among true false false false m
+same Vertical m = among false true false false m
+same SingleScreenUpper m = among false false true false m
+same SingleScreenLower m = among false false false true m
 
--- the mirrorings that byte 6 can ask for
+-- the mirrorings that byte 6 can ask for, "horizontal or vertical"
 abbrev pub isHeaders : Mirroring → Bool
-isHeaders Horizontal = true
-isHeaders Vertical = true
-isHeaders SingleScreenUpper = false
-isHeaders SingleScreenLower = false
+isHeaders m = among true true false false m

@@ -18,15 +18,15 @@ modeOf n = cond (eqb n 0) House Board
 abbrev pub KB1 : ℕ
 KB1 = 1024
 
--- 4,096
+-- a 4 KB CHR bank
 abbrev pub KB4 : ℕ
 KB4 = 4096
 
--- 8,192
+-- a CHR block, a RAM, an 8 KB PRG bank
 abbrev pub KB8 : ℕ
 KB8 = 8192
 
--- 16,384, a PRG block
+-- a PRG block
 abbrev pub KB16 : ℕ
 KB16 = 16384
 

@@ -15,18 +15,12 @@ use Rattle.boards.specs.Range.{isLoaded}
 use Rattle.boards.specs.Write as boards
 use Rattle.boards.specs.declared.Board.{Board}
 use Rattle.boards.specs.declared.Written.{Written}
-use Rattle.boards.specs.declared.WriteAnswer.{WriteAnswer}
-use Rattle.boards.specs.declared.WriteAnswer.the-variants.{Quiet, Notice, Refused}
-use Rattle.common.specs.declared.Mirroring.{Mirroring}
-use Rattle.common.specs.declared.Mirroring.the-variants.{Horizontal, Vertical, SingleScreenUpper, SingleScreenLower}
-use Rattle.common.specs.Answers.{mirroringLetter}
+use Rattle.boards.specs.declared.WriteAnswer.the-variants.{Quiet, Refused}
 use native.Mathlib.Omega.{arith}
-use Rattle.pages.specs.declared.Parts.{Parts}
 use Rattle.pages.specs.Pages.{refusedPage, readPage, writePage, numbers, isTold}
 use Rattle.page_laws.specs.Moves.{movedParts}
 use Rattle.page_laws.specs.Through.{kind, through, storesPrg, storesChr, stays}
 use Rattle.page_laws.proofs.Moves.{write-reads, write-writes}
-use Rattle.page_laws.proofs.Numbers.{refusals-few}
 use Rattle.page_laws.proofs.MapReads.{map-reads}
 use Rattle.page_laws.proofs.MapWrites.{map-writes}
 use Rattle.exports.specs.Numbers.{refused, writeNumber, movedNumber}
@@ -34,43 +28,18 @@ use Rattle.exports.specs.Bytes.{boardIn, isState, encoded}
 use Rattle.exports.specs.Calls.{readBytes, writing, told, WriteOwes, WriteMovedOwes, PagesOwes}
 use Rattle.exports.specs.RoundTrip.{WritesAs}
 use Rattle.exports.proofs.RoundTrip.{there-and-back}
+use Rattle.exports.proofs.WriteAnswers.{answer-parts}
 use Rattle.exports.proofs.AsBoards.{landed, writes-as}
 use Rattle.exported_runs.specs.Holds.{Holds, Tells}
 use Rattle.exported_runs.proofs.Runs.{holds-a-state, read-of}
-
-small-letter : (m : Mirroring) → mirroringLetter m < 256
-small-letter Horizontal = omega arith
-small-letter Vertical = omega arith
-small-letter SingleScreenUpper = omega arith
-small-letter SingleScreenLower = omega arith
-
-small : (w : WriteAnswer) → writeNumber w < 0x10000
-unfolding writeNumber refused
-small Quiet = omega arith
-small (Notice m) = omega (arith, small-letter m)
-small (Refused why) = omega (arith, refusals-few why)
 
 -- a bit of the answer
 abbrev bit : Bool → ℕ
 bit t = cond t 1 0
 
--- the answer that a caller takes apart: the write's below, a bit for each part above
-named : (n : ℕ) → n < 0x10000 → (chr prg : Bool)
-    → ((n + (cond chr 0x10000 0 + cond prg 0x20000 0)) % 0x10000 ≡ n) × ((n + (cond chr 0x10000 0 + cond prg 0x20000 0)) / 0x10000 % 2 ≡ cond chr 1 0) × ((n + (cond chr 0x10000 0 + cond prg 0x20000 0)) / 0x20000 ≡ cond prg 1 0)
-named n h true true = (omega arith, omega arith, omega arith)
-named n h true false = (omega arith, omega arith, omega arith)
-named n h false true = (omega arith, omega arith, omega arith)
-named n h false false = (omega arith, omega arith, omega arith)
-
 unset : (t : Bool) → bit t ≡ 0 → t ≡ false
 unset true e = absurd (omega arith)
 unset false e = refl
-
--- of any answer of a write
-pub answer-parts : (w : WriteAnswer) (p : Parts)
-    → ((writeNumber w + movedNumber p) % 0x10000 ≡ writeNumber w) × ((writeNumber w + movedNumber p) / 0x10000 % 2 ≡ cond (p .chr) 1 0) × ((writeNumber w + movedNumber p) / 0x20000 ≡ cond (p .prg) 1 0)
-unfolding movedNumber
-answer-parts w p = named (writeNumber w) (small w) (p .chr) (p .prg)
 
 module _ (s : List ℕ) (b : Board) (h : Holds s b) where
   held : boardIn s ≡ b

@@ -26,7 +26,7 @@ use Rattle.boards.specs.declared.Board.{Board}
 use Rattle.boards.specs.declared.Event.the-variants.{Write, Clock}
 use Rattle.states.specs.Words.{wordsOf}
 use Rattle.exports.specs.Numbers.{refused, readNumber, loadNumber}
-use Rattle.exports.specs.Bytes.{bytesOf, isState, kept}
+use Rattle.exports.specs.Bytes.{bytesOf, isState, stateLeft}
 use Rattle.exports.specs.Calls.{readBytes, WriteOwes, ClockOwes, decision, LoadOwes, DigitsOwes}
 use Rattle.exports.specs.RoundTrip.{AreBytes, ShowsAs}
 use Rattle.exports.proofs.RoundTrip.{is-a-state}
@@ -91,6 +91,14 @@ decided image mode s p c e = go (ramsFit p c) (eqb s 40 && ltb mode 2) refl e
     go true false f e = absurd (let z : _≡_ {A = ℕ} 0 1 = cc in omega arith)
     go false y f e = absurd (let z : _≡_ {A = ℕ} 0 1 = cc in omega arith)
 
+-- so an accepted load has taken the image in that mode
+pub accepted-verdict : (image : List ℕ) (mode : ℕ) (s prg chr : List ℕ) (r : ℕ) (s′ prg′ chr′ : List ℕ) → LoadOwes image mode s prg chr r s′ prg′ chr′ → r ≡ 0
+    → verdict image (modeOf mode) (length prg) (length chr) ≡ Take
+accepted-verdict image mode s prg chr r s′ prg′ chr′ o z =
+    decided image mode (length s) (length prg) (length chr)
+    (taken (decision image mode (length s) (length prg) (length chr)) (cartridgeOf (headerOf image) (modeOf mode) (length image)) (sym (o .reply) ∙ z))
+    .found
+
 length-of : (h : Header) (m : Mode) (n : ℕ) → n < 0x10000000000000000 → cartridgeOf h m n .length < 0x10000000000000000
 unfolding cartridgeOf
 length-of h m n l = l
@@ -98,14 +106,14 @@ length-of h m n l = l
 -- after an accepted load: what is lent is the start of the board that the image asks for
 pub after-load : (image : List ℕ) (mode : ℕ) (s prg chr : List ℕ) (r : ℕ) (s′ prg′ chr′ : List ℕ) → AreBytes image → length image < 0x10000000000000000
     → LoadOwes image mode s prg chr r s′ prg′ chr′ → r ≡ 0 → Holds s′ (startOf (cartridgeOf (headerOf image) (modeOf mode) (length image)))
-unfolding kept loadedBoard loadedAs loadNumber
+unfolding stateLeft loadedBoard loadedAs loadNumber
 after-load image mode s prg chr r s′ prg′ chr′ b l o z =
     let c = cartridgeOf (headerOf image) (modeOf mode) (length image) in
     let d = decision image mode (length s) (length prg) (length chr) in
     let e : d ≡ Take = taken d c (sym (o .reply) ∙ z) in
     let f = decided image mode (length s) (length prg) (length chr) e in
     record {
-      bytes = o .state ∙ ap₂ (λ (n : ℕ) (x : Verdict). kept s n (wordsOf (loadedBoard (loadedAs x c) .board))) z e
+      bytes = o .state ∙ ap₂ (λ (n : ℕ) (x : Verdict). stateLeft s n (wordsOf (loadedBoard (loadedAs x c) .board))) z e
           ∙ ap (λ (n : ℕ). cond (eqb n 40) (bytesOf (wordsOf (startOf c))) s) (f .room);
       in-range = load-in-range image (modeOf mode) (length prg) (length chr) (b 4) (b 5) (f .found);
       of-its-types = start-typed c (length-of (headerOf image) (modeOf mode) (length image) l);

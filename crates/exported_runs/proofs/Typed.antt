@@ -18,7 +18,7 @@ use Rattle.uxrom.specs.Uxrom as uxrom
 use Rattle.uxrom.specs.declared.Uxrom as uxrom-type
 use Rattle.mmc3.specs.Clock.{houseClock, nextCounter, boardClock, clockIn, withIrq, clocked}
 use Rattle.mmc3.specs.Range as mmc3
-use Rattle.mmc3.specs.Write.{isEven, moveOf, keptBits, applied, written}
+use Rattle.mmc3.specs.Write.{isEven, moveOf, dataBits, applied, written}
 use Rattle.mmc3.specs.declared.Clocked.{Clocked}
 use Rattle.mmc3.specs.declared.Irq.{Irq}
 use Rattle.mmc3.specs.declared.Mmc3 as mmc3-type
@@ -55,8 +55,8 @@ put-fits (suc n) [] i x h f = absurd f
 put-fits (suc n) (d ∷ s) zero x h f = (h, f .1)
 put-fits (suc n) (d ∷ s) (suc i) x h f = (f .0, put-fits n s i x h (f .1))
 
-kept-byte : (n v : ℕ) → Byte v → Byte (keptBits n v)
-unfolding keptBits
+kept-byte : (n v : ℕ) → Byte v → Byte (dataBits n v)
+unfolding dataBits
 kept-byte n v h = either Byte (ltb n 2) (omega arith) (either Byte (leb 6 n) (omega arith) h)
 
 -- only a data write and the latch's put a byte into MMC3
@@ -65,7 +65,7 @@ unfolding written moveOf applied withIrq
 written-typed m t v a h =
     let P : Move → Type 0 = λ w. TypedMmc3 (applied w m) in
     either P (ltb a 0x8000) t
-    (either P (ltb a 0xA000) (either P (isEven a) t (put-fits 8 (m .regs) (m .select) (keptBits (m .select) v) (kept-byte (m .select) v h) (t .0), t .1))
+    (either P (ltb a 0xA000) (either P (isEven a) t (put-fits 8 (m .regs) (m .select) (dataBits (m .select) v) (kept-byte (m .select) v h) (t .0), t .1))
     (either P (ltb a 0xC000) (either P (isEven a) t t)
     (either P (ltb a 0xE000) (either P (isEven a) (t .0, (h, t .1 .1)) t)
     (either P (isEven a) t t))))

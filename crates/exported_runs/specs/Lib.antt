@@ -1,1 +1,3 @@
 pub mod Holds
+pub mod Runs
+pub mod Demand3

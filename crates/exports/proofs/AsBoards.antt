@@ -14,7 +14,7 @@ use Rattle.common.specs.declared.Mirroring.the-variants.{Horizontal, Vertical, 
 use Rattle.common.specs.declared.Mirrors.{Mirrors}
 use Rattle.common.specs.declared.Mirrors.the-variants.{AsBefore, As}
 use Rattle.cartridge.specs.Header.{headerOf}
-use Rattle.cartridge.specs.Load.{firstOf, verdictOn, verdict, cartridgeOf, loadedAs, ramAfter, ramsFit}
+use Rattle.cartridge.specs.Load.{verdict, cartridgeOf, loadedAs, ramAfter, ramsFit}
 use Rattle.cartridge.specs.declared.Verdict.{Verdict}
 use Rattle.places.specs.Places.{storedPrg, storedChr}
 use Rattle.places.specs.declared.Landing.{Landing}
@@ -34,7 +34,7 @@ use Rattle.states.specs.Kept.{OfItsTypes}
 use Rattle.states.specs.declared.Words.{Words}
 use Rattle.states.proofs.RoundTrip.{digits-there}
 use Rattle.exports.specs.Numbers.{readNumber, writeNumber, clockNumber, loadNumber}
-use Rattle.exports.specs.Bytes.{wordsIn, bytesOf, boardIn, isState, isStateFor, encoded, kept}
+use Rattle.exports.specs.Bytes.{wordsIn, bytesOf, boardIn, isState, isStateFor, encoded, stateLeft}
 use Rattle.exports.specs.Calls.{readBytes, writing, WriteOwes, ClockOwes, decision, loading, LoadOwes, isShown, DigitsOwes}
 use Rattle.exports.specs.RoundTrip.{WritesAs, ClocksAs, LoadsAs, ShowsAs}
 use Rattle.exports.proofs.RoundTrip.{encoded-words, there-and-back, is-a-state}
@@ -51,7 +51,7 @@ unfolding boards.noticeUnless writeNumber
 unless-small true m = refl
 unless-small false m = letter-small m
 
-notice-small : (old : Mirroring) (m : Mirrors) → ltb (writeNumber (boards.notice old m)) 256 ≡ true
+pub notice-small : (old : Mirroring) (m : Mirrors) → ltb (writeNumber (boards.notice old m)) 256 ≡ true
 unfolding boards.notice writeNumber
 notice-small old AsBefore = refl
 notice-small old (As m) = unless-small (same old m) m
@@ -66,19 +66,19 @@ taken x y e = ap (λ b. cond b x y) e
 
 module _ (b : Board) where
   -- what is kept after an answer below 256 is the next board's bytes
-  kept-next : (n : ℕ) (w : Words) → ltb n 256 ≡ true → kept (encoded b) n w ≡ bytesOf w
-  unfolding kept bytesOf
+  kept-next : (n : ℕ) (w : Words) → ltb n 256 ≡ true → stateLeft (encoded b) n w ≡ bytesOf w
+  unfolding stateLeft bytesOf
   kept-next n w l = taken (bytesOf w) (encoded b) l
 
   kept-accepted : (v a : ℕ)
-      → kept (encoded b) (writeNumber (boards.acceptedWrite b v a .answer)) (wordsOf (boards.acceptedWrite b v a .board)) ≡ encoded (boards.acceptedWrite b v a .board)
+      → stateLeft (encoded b) (writeNumber (boards.acceptedWrite b v a .answer)) (wordsOf (boards.acceptedWrite b v a .board)) ≡ encoded (boards.acceptedWrite b v a .board)
   unfolding boards.acceptedWrite boards.turned
   kept-accepted v a = kept-next _ _ (notice-small _ _)
 
   -- so after a write, also after a refusal, which leaves the board
   kept-written : (p : Landing) (v a : ℕ)
-      → kept (encoded b) (writeNumber (boards.writtenAs b p v a .answer)) (wordsOf (boards.writtenAs b p v a .board)) ≡ encoded (boards.writtenAs b p v a .board)
-  unfolding kept bytesOf boards.writtenAs
+      → stateLeft (encoded b) (writeNumber (boards.writtenAs b p v a .answer)) (wordsOf (boards.writtenAs b p v a .board)) ≡ encoded (boards.writtenAs b p v a .board)
+  unfolding stateLeft bytesOf boards.writtenAs
   kept-written (Refused why) v a = either (λ (s : List ℕ). s ≡ encoded b) (ltb (writeNumber (boards.writtenAs b (Refused why) v a .answer)) 256) refl refl
   kept-written (At p) v a = kept-accepted v a
 
@@ -109,7 +109,7 @@ module _ (b : Board) (t : OfItsTypes b) (h : inRange b ≡ true) where
       let y : r ≡ writeNumber (boards.writtenAs b p v a .answer) = e .reply ∙ ap (λ (x : Written). writeNumber (x .answer)) z in
       record {
         reply = y ∙ ap (λ (x : Written). writeNumber (x .answer)) (sym (o .reply));
-        state = e .state ∙ ap₂ (λ (n : ℕ) (x : Written). kept (encoded b) n (wordsOf (x .board))) y z ∙ kept-written b p v a
+        state = e .state ∙ ap₂ (λ (n : ℕ) (x : Written). stateLeft (encoded b) n (wordsOf (x .board))) y z ∙ kept-written b p v a
             ∙ ap (λ (x : Written). encoded (x .board)) (sym (o .reply));
         prg-ram = e .prg-ram ∙ ap (λ (q : Landing). storedPrg q v prg) (landed image prg chr a) ∙ sym (o .prg-ram);
         chr-ram = e .chr-ram ∙ ap (λ (q : Landing). storedChr q v chr) (landed image prg chr a) ∙ sym (o .chr-ram);
@@ -125,7 +125,7 @@ module _ (b : Board) (t : OfItsTypes b) (h : inRange b ≡ true) where
       let y : r ≡ clockNumber (acceptedClock b .answer) = e .reply ∙ ap (λ (x : Clocked). clockNumber (x .answer)) (z ∙ c) in
       record {
         reply = y ∙ ap (λ (x : Clocked). clockNumber (x .answer)) (sym c);
-        state = e .state ∙ ap₂ (λ (n : ℕ) (x : Clocked). kept (encoded b) n (wordsOf (x .board))) y (z ∙ c) ∙ kept-next b _ _ (yes-no-small _)
+        state = e .state ∙ ap₂ (λ (n : ℕ) (x : Clocked). stateLeft (encoded b) n (wordsOf (x .board))) y (z ∙ c) ∙ kept-next b _ _ (yes-no-small _)
             ∙ ap (λ (x : Clocked). encoded (x .board)) (sym c);
       }
 
@@ -140,7 +140,7 @@ module _ (b : Board) (t : OfItsTypes b) (h : inRange b ≡ true) where
 
 -- a load of a mode that is one, with room for the state
 decided : (image : List ℕ) (mode p c : ℕ) → mode < 2 → decision image mode 40 p c ≡ verdict image (modeOf mode) p c
-unfolding ramsFit verdict verdictOn firstOf
+unfolding ramsFit verdict
 decided image mode p c h = go (ramsFit p c) refl
   where
     go : (x : Bool) → ramsFit p c ≡ x → decision image mode 40 p c ≡ verdict image (modeOf mode) p c
@@ -157,7 +157,7 @@ loads-as image mode s prg chr l prg″ chr″ r s′ prg′ chr′ m n o e =
     let y : r ≡ loadNumber (l .answer) = e .reply ∙ ap (λ (x : Loaded). loadNumber (x .answer)) z in
     record {
       reply = y;
-      state = e .state ∙ ap₂ (λ (n : ℕ) (x : Loaded). kept s n (wordsOf (x .board))) y z;
+      state = e .state ∙ ap₂ (λ (n : ℕ) (x : Loaded). stateLeft s n (wordsOf (x .board))) y z;
       prg-ram = e .prg-ram ∙ ap (λ (x : Verdict). ramAfter x prg) d ∙ sym (o .prg-ram);
       chr-ram = e .chr-ram ∙ ap (λ (x : Verdict). ramAfter x chr) d ∙ sym (o .chr-ram);
     }

@@ -26,7 +26,7 @@ use Rattle.states.specs.Steps.{cartIsKept, modeIsKept, banksAreKept, mmc3IsKept
 use Rattle.states.specs.declared.Words.{Words}
 use Rattle.states.proofs.Judged.{in-parts}
 use Rattle.states.proofs.Moved.{after-write, after-clock}
-use Rattle.exports.specs.Bytes.{kept}
+use Rattle.exports.specs.Bytes.{stateLeft}
 use Rattle.exports.specs.Numbers.{refused, clockNumber, writeNumber, pagesNumber}
 
 -- the mapper that the first word names is the board's
@@ -42,10 +42,10 @@ four-parts {v} g e a b c d = (λ i. a i && b i && c i && d i) ∙ ap (λ (m : Ma
 
 module _ (s : List ℕ) (w : Words) where
   abbrev keptAs : Bool → Words → List ℕ
-  keptAs t v = kept s (clockNumber (clockIf t (boardIn w) .answer)) v
+  keptAs t v = stateLeft s (clockNumber (clockIf t (boardIn w) .answer)) v
 
   pub clock-kept : keptAs (isKept w) (afterClock w (clockIf (isKept w) (boardIn w) .board)) ≡ keptAs (isKept w) (wordsOf (clockIf (isKept w) (boardIn w) .board))
-  unfolding kept clockNumber refused
+  unfolding stateLeft clockNumber refused
   clock-kept = go (isKept w) refl
     where
       go : (t : Bool) → isKept w ≡ t → keptAs t (afterClock w (clockIf t (boardIn w) .board)) ≡ keptAs t (wordsOf (clockIf t (boardIn w) .board))
@@ -54,29 +54,29 @@ module _ (s : List ℕ) (w : Words) where
 
   -- after a write that lands there
   abbrev Kept : Written → Type 0
-  Kept x = kept s (writeNumber (x .answer)) (afterWrite (mapperOf (flatDigits cartSizes (w .cart))) w (x .board)) ≡ kept s (writeNumber (x .answer)) (wordsOf (x .board))
+  Kept x = stateLeft s (writeNumber (x .answer)) (afterWrite (mapperOf (flatDigits cartSizes (w .cart))) w (x .board)) ≡ stateLeft s (writeNumber (x .answer)) (wordsOf (x .board))
 
   module _ (v a : ℕ) where
     refused-at : (why : Refusal) → Kept (writtenAs (boardIn w) (Refused why) v a)
-    unfolding kept refused writeNumber writtenAs
+    unfolding stateLeft refused writeNumber writtenAs
     refused-at why = rw (le-ltb (256 + refusalNumber why) 256 (omega arith)) refl
 
     accepted : isKept w ≡ true → Kept (acceptedWrite (boardIn w) v a)
-    accepted h = ap (kept s (writeNumber (acceptedWrite (boardIn w) v a .answer))) (after-write w h v a)
+    accepted h = ap (stateLeft s (writeNumber (acceptedWrite (boardIn w) v a .answer))) (after-write w h v a)
 
     where-it-lands : isKept w ≡ true → (p : Landing) → Kept (writtenAs (boardIn w) p v a)
     unfolding writtenAs
     where-it-lands h (Refused why) = refused-at why
     where-it-lands h (At p) = accepted h
 
-    judged : (t : Bool) → (t ≡ true → isKept w ≡ true) → (p : Landing) → Kept (writtenAs (boardIn w) (cond t p (Refused StateOutOfRange)) v a)
-    judged true h p = where-it-lands (h refl) p
-    judged false h p = refused-at StateOutOfRange
+    judged : (rams t : Bool) → (t ≡ true → isKept w ≡ true) → (p : Landing) → Kept (writtenAs (boardIn w) (guarded rams t p) v a)
+    unfolding guarded
+    judged false t h p = refused-at RamNot8K
+    judged true true h p = where-it-lands (h refl) p
+    judged true false h p = refused-at StateOutOfRange
 
     pub write-kept : (t : Bool) → (t ≡ true → isKept w ≡ true) → (prg chr : List ℕ) → Kept (writtenAs (boardIn w) (landingIf t (boardIn w) prg chr a) v a)
-    unfolding guarded
-    write-kept t h prg chr =
-        either (λ (p : Landing). Kept (writtenAs (boardIn w) p v a)) (ramsFit (length prg) (length chr)) (judged t h (writeLanding (boardIn w) a)) (refused-at RamNot8K)
+    write-kept t h prg chr = judged (ramsFit (length prg) (length chr)) t h (writeLanding (boardIn w) a)
 
 -- the number of whether pages are told
 pub number-told : (t : Bool) → pagesNumber (told t) ≡ cond t 0 (refused StateOutOfRange)

@@ -1,5 +1,7 @@
 mod Put
 pub mod RoundTrip
+pub mod WriteAnswers
 pub mod AsBoards
 pub mod Unique
+pub mod AfterRefusal
 mod Keeps

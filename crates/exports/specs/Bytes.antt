@@ -52,5 +52,5 @@ abbrev pub encoded : Board → List ℕ
 encoded b = bytesOf (states.wordsOf b)
 
 -- after an answer the next board's bytes, into a buffer of 40 (no other comes with an answer below 256); "After a refusal every lent buffer holds what it held"
-unfoldable pub kept : List ℕ → ℕ → Words → List ℕ
-kept s answer w = cond (ltb answer 256) (cond (eqb (length s) 40) (bytesOf w) s) s
+unfoldable pub stateLeft : List ℕ → ℕ → Words → List ℕ
+stateLeft s answer w = cond (ltb answer 256) (cond (eqb (length s) 40) (bytesOf w) s) s

@@ -3,3 +3,4 @@ pub mod Bytes
 pub mod Calls
 pub mod RoundTrip
 pub mod Steps
+pub mod AfterRefusal

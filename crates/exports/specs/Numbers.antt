@@ -8,12 +8,7 @@ use Rattle.cartridge.specs.declared.HeaderAnswer.the-variants.{Read, Refused}
 use Rattle.pages.specs.declared.Parts.{Parts}
 use Rattle.pages.specs.declared.PagesAnswer.{PagesAnswer}
 use Rattle.pages.specs.declared.PagesAnswer.the-variants.{Told, Refused as NotTold}
-unfoldable pub use Rattle.boards.specs.Numbers.{refused, readNumber, writeNumber, clockNumber, loadNumber}
-
--- the header reader: 0
-unfoldable pub headerNumber : HeaderAnswer → ℕ
-headerNumber (Read h) = 0
-headerNumber (Refused why) = refused why
+unfoldable pub use Rattle.boards.specs.Numbers.{refused, headerNumber, readNumber, writeNumber, clockNumber, loadNumber}
 
 -- above a write's answer: 0x10000 where pages 0 to 7 may have moved, 0x20000 where pages 32 to 63 may
 unfoldable pub movedNumber : Parts → ℕ

@@ -10,7 +10,7 @@ use Rattle.boards.specs.declared.Loaded.{Loaded}
 use Rattle.states.specs.Kept.{boardDigits}
 use Rattle.states.specs.Words.{wordsOf}
 use Rattle.exports.specs.Numbers.{writeNumber, clockNumber, loadNumber}
-use Rattle.exports.specs.Bytes.{encoded, kept}
+use Rattle.exports.specs.Bytes.{encoded, stateLeft}
 
 -- every entry is a byte
 abbrev pub AreBytes : List ℕ → Type 0
@@ -31,7 +31,7 @@ pub record ClocksAs (c : Clocked) (r : ℕ) (s′ : List ℕ) : Type 0 where
 -- a load as the board's: the bytes of its board after an accepted one, what they were after a refusal
 pub record LoadsAs (l : Loaded) (s prg chr : List ℕ) (r : ℕ) (s′ prg′ chr′ : List ℕ) : Type 0 where
   pub reply : r ≡ loadNumber (l .answer)
-  pub state : s′ ≡ kept s (loadNumber (l .answer)) (wordsOf (l .board))
+  pub state : s′ ≡ stateLeft s (loadNumber (l .answer)) (wordsOf (l .board))
   pub prg-ram : prg′ ≡ prg
   pub chr-ram : chr′ ≡ chr
 

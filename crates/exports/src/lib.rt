@@ -8,7 +8,7 @@ ghost use Rattle.rules.specs.Flat.{flatWord, flatDigits};
 ghost use Rattle.rules.specs.Rows.{bytes};
 ghost use Rattle.memory.specs.Memory.{part, copied};
 ghost use Rattle.exports.specs.Numbers.{refused, readNumber, writeNumber, clockNumber, loadNumber, movedNumber, pagesNumber, fieldsOf, version};
-ghost use Rattle.exports.specs.Bytes.{wordAt, fiveWords, wordsIn, bytesOf, kept};
+ghost use Rattle.exports.specs.Bytes.{wordAt, fiveWords, wordsIn, bytesOf, stateLeft};
 ghost use Rattle.exports.specs.Calls.{readBytes, WriteOwes, WriteMovedOwes, ClockOwes, LoadOwes, HeaderOwes, DigitsOwes, PagesOwes};
 ghost use Rattle.exports.specs.Steps.{wordPut, FieldsPut, WroteOwes};
 use boards::ClockAnswer;
@@ -194,7 +194,7 @@ fn put_words(s: &mut [u8], w: Words)
 
 // After a refusal the state holds what it held.
 fn keep(state: &mut [u8], answer: u16, w: Words)
-    ensures { λ _. ⌜ now (state .exit) ≡ kept (now (state .entry)) answer w ⌝ }
+    ensures { λ _. ⌜ now (state .exit) ≡ stateLeft (now (state .entry)) answer w ⌝ }
 {
     if answer < 256 {
         if state.len() == 40 {

@@ -1,12 +1,11 @@
 -- Whether a write is accepted depends on what was loaded, on the lent lengths and on whether the board refuses the address; the real board refuses none.
 -- Assumes nothing.
 use Prim.Native.Nat.{ℕ}
-use mathlib.Core.Path.{_≡_, refl, sym, ap, _∙_, subst}
-use mathlib.Core.Bool.{Bool, true, cond, _&&_}
+use mathlib.Core.Path.{_≡_, refl, sym, ap, _∙_}
+use mathlib.Core.Bool.{Bool, true, false, cond, _&&_}
 use lib.Dec.{eqb}
 use lib.ListN.{length}
 use Rattle.common.specs.declared.Mode.the-variants.{Board as OnBoard}
-use Rattle.common.specs.declared.Refusal.the-variants.{RamNot8K, StateOutOfRange}
 use Rattle.cartridge.specs.Load.{ramsFit}
 use Rattle.cartridge.specs.declared.Cartridge.{Cartridge}
 use Rattle.cartridge.specs.declared.MapperType.{MapperType}
@@ -19,7 +18,6 @@ use Rattle.boards.specs.declared.Board.{Board}
 use Rattle.laws.specs.Calls.{OneImage}
 use Rattle.laws.specs.Loads.{isAccepted, accepts}
 use Rattle.laws.specs.Within.{Found}
-use Rattle.laws.proofs.Cases.{alike}
 use Rattle.laws.proofs.Within.{board-writes}
 
 found-accepted : (p : Landing) → Found p → isAccepted p ≡ true
@@ -29,7 +27,9 @@ found-accepted (At p) f = refl
 
 guarded-alike : (rams s t : Bool) (p q : Landing) → s ≡ t → isAccepted p ≡ isAccepted q → isAccepted (guarded rams s p) ≡ isAccepted (guarded rams t q)
 unfolding guarded
-guarded-alike rams s t p q e f = subst (λ (x : Bool). isAccepted (cond rams (cond s p (Refused StateOutOfRange)) (Refused RamNot8K)) ≡ isAccepted (cond rams (cond x q (Refused StateOutOfRange)) (Refused RamNot8K))) e (alike (λ (x y : Landing). isAccepted x ≡ isAccepted y) rams (alike (λ (x y : Landing). isAccepted x ≡ isAccepted y) s f refl) refl)
+guarded-alike false s t p q e f = refl
+guarded-alike true s true p q e f = rw e f
+guarded-alike true s false p q e f = rw e refl
 
 -- two boards of one image
 module _ {k : MapperType} {b d : Board} (o : OneImage k b d) where

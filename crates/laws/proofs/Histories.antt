@@ -17,21 +17,31 @@ use Rattle.cartridge.specs.declared.Verdict.{Verdict}
 use Rattle.cartridge.specs.declared.Verdict.the-variants.{Take, Refuse}
 use Rattle.boards.specs.Range.{inRange}
 use Rattle.boards.specs.Start.{startOf, loadedBoard}
+use Rattle.boards.specs.declared.Board.{Board}
 use Rattle.boards.specs.declared.LoadAnswer.the-variants.{Accepted}
 use Rattle.laws.specs.Calls.{loadWith, History, reached, OneImage}
 use Rattle.laws.proofs.Ranges.{run-in-range, run-keeps-cart, loaded-in-range}
 
--- an accepted load keeps the cartridge that it read
-started : (v : Verdict) (c : Cartridge) → loadedBoard (loadedAs v c) .answer ≡ Accepted → loadedBoard (loadedAs v c) .board .cart ≡ c
-unfolding loadedBoard loadedAs startOf
+-- an accepted load starts the board of the cartridge that it read
+started : (v : Verdict) (c : Cartridge) → loadedBoard (loadedAs v c) .answer ≡ Accepted → loadedBoard (loadedAs v c) .board ≡ startOf c
+unfolding loadedBoard loadedAs
 started Take c e = refl
 started (Refuse why) c e = absurd (let z : _≡_ {A = ℕ} 0 1 = cc in omega arith)
 
+module _ {mode : Mode} {s : List ℕ} where
+  start-of : (h : History mode s) → loadWith mode s (h .prg) (h .chr) .board ≡ startOf (cartridgeOf (headerOf s) mode (length s))
+  start-of h = started (verdict s mode (length (h .prg)) (length (h .chr))) (cartridgeOf (headerOf s) mode (length s)) (h .accepted)
+
+  -- so any two histories of one image in one mode start from one board
+  pub one-start : (x y : History mode s) → loadWith mode s (x .prg) (x .chr) .board ≡ loadWith mode s (y .prg) (y .chr) .board
+  one-start x y = start-of x ∙ sym (start-of y)
+
 module _ (mode : Mode) (s : List ℕ) (prg-byte : byte s 4 < 256) (chr-byte : byte s 5 < 256) where
   cart-of : (h : History mode s) → reached h .cart ≡ cartridgeOf (headerOf s) mode (length s)
+  unfolding startOf
   cart-of h =
       run-keeps-cart (loadWith mode s (h .prg) (h .chr) .board) (h .calls)
-      ∙ started (verdict s mode (length (h .prg)) (length (h .chr))) (cartridgeOf (headerOf s) mode (length s)) (h .accepted)
+      ∙ ap (λ (b : Board). b .cart) (start-of h)
 
   in-range : (h : History mode s) → inRange (reached h) ≡ true
   in-range h =

@@ -10,19 +10,27 @@ mod Mmc1Answers
 mod Positions
 mod Arming
 pub mod PLines
+pub mod Numbers
+pub mod FurtherRows
 pub mod Clocks
 pub mod PublicClocks
+pub mod ThreeWrites
 pub mod Unique
 pub mod Ranges
+pub mod Loadable
 pub mod Within
 pub mod Useless
 pub mod Choices
 pub mod Loads
+pub mod FiveBits
 pub mod Histories
 pub mod SettlesMmc3
-pub mod SettlesMmc3Met
 pub mod SettlesMmc1
+pub mod Demand3
 pub mod SettlesMmc1Met
+pub mod SettlesMmc3Met
 pub mod ControlBit4
 pub mod Mark
 pub mod OutOfRange
+pub mod AfterRefusal
+pub mod Trailing

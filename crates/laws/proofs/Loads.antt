@@ -29,7 +29,7 @@ use Rattle.boards.specs.declared.Event.the-variants.{Read, Write, Clock}
 use Rattle.boards.specs.declared.Answer.the-variants.{Write as toWrite, Clock as toClock}
 use Rattle.laws.specs.Loads.{isAccepted, accepts, made}
 use Rattle.laws.specs.SettlesMmc1.{isSerial}
-use Rattle.laws.specs.Useless.{isRefusal}
+use Rattle.laws.specs.Calls.{isRefusal}
 use Rattle.laws.proofs.Mmc1Moves.{no-load, chosen, next-is}
 
 -- the answer of a board that moves is no refusal

@@ -14,7 +14,7 @@ use Rattle.common.specs.declared.Mode.the-variants.{House, Board as OnBoard}
 use Rattle.common.specs.declared.Refusal.the-variants.{StateOutOfRange}
 use Rattle.memory.specs.Memory.{byte}
 use Rattle.cartridge.specs.Header.{isInes, headerOf, mirroringOf, isNes2}
-use Rattle.cartridge.specs.Load.{verdictOn, verdict, cartridgeOf, loadedAs, couldLoad, prgTotal, prgRom, chrRom, chrTotal}
+use Rattle.cartridge.specs.Load.{verdict, cartridgeOf, loadedAs, couldLoad, prgTotal, prgRom, chrRom, chrTotal}
 use Rattle.cartridge.specs.declared.Cartridge.{Cartridge}
 use Rattle.cartridge.specs.declared.MapperType.{MapperType}
 use Rattle.cartridge.specs.declared.MapperType.the-variants.{Nrom, Mmc1, Uxrom, Cnrom, Mmc3}
@@ -22,7 +22,7 @@ use Rattle.cartridge.specs.declared.Verdict.{Verdict}
 use Rattle.cartridge.specs.declared.Verdict.the-variants.{Take, Refuse}
 use Rattle.places.specs.Places.{inPrg, inChr, byteOf, byteAt}
 use Rattle.places.specs.Windows.{Window, landsIn}
-use Rattle.places.specs.Windows.Window.{Prg16K, Prg8K, Chr8K, Chr4K, Chr1K, PrgRam, ChrRam, Nothing, Refused as NoWindow}
+use Rattle.places.specs.Windows.Window.{Prg16K, Prg8K, Chr8K, Chr4K, Chr1K, PrgRam, ChrRam, Empty, Refused as NoWindow}
 use Rattle.places.specs.declared.Place.{Place}
 use Rattle.places.specs.declared.Place.the-variants.{Prg, Chr, PrgRam as InPrgRam, ChrRam as InChrRam, Nowhere}
 use Rattle.places.specs.declared.Landing.{Landing}
@@ -81,7 +81,7 @@ lands-alike x c (Chr4K n) a = refl
 lands-alike x c (Chr1K n) a = refl
 lands-alike x c PrgRam a = refl
 lands-alike x c ChrRam a = refl
-lands-alike x c Nothing a = refl
+lands-alike x c Empty a = refl
 lands-alike x c (NoWindow why) a = refl
 
 -- what follows a place past byte 7 does not see it
@@ -215,7 +215,7 @@ module _ (s : List ℕ) (v : ℕ) (h : v / 16 ≡ byte s 7 / 16) where
   at6 = getD-set-other s 7 6 v 0 (λ e. omega (arith, e))
 
   same-verdict : (mode : Mode) (p c : ℕ) → verdict (set s 7 v) mode p c ≡ verdict s mode p c
-  unfolding verdict verdictOn isInes headerOf
+  unfolding verdict isInes headerOf
   same-verdict mode p c = simp (at0, at1, at2, at3, at4, at5, at6, high-nibble 7 s v h, length-set)
 
   same-start : (mode : Mode) → startOf (cartridgeOf (headerOf (set s 7 v)) mode (length (set s 7 v))) ≡ marked (isNes2 (headerOf (set s 7 v))) (startOf (cartridgeOf (headerOf s) mode (length s)))

@@ -11,7 +11,7 @@ use Rattle.cartridge.specs.declared.Cartridge.{Cartridge}
 use Rattle.cartridge.specs.declared.MapperType.{MapperType}
 use Rattle.cartridge.specs.declared.MapperType.the-variants.{Mmc1}
 use Rattle.places.specs.Windows.{landsIn, houseChr, inWindows}
-use Rattle.places.specs.Windows.Window.{Nothing as NoWindow}
+use Rattle.places.specs.Windows.Window.{Empty}
 use Rattle.places.specs.declared.Landing.{Landing}
 use Rattle.mmc1.specs.Read as mmc1
 use Rattle.mmc1.specs.Write.{moveOf, reset, storedChr0, storedChr1, load, applied, mirrorsOf, written}
@@ -157,11 +157,11 @@ module _ {b d : Board} (r : Common b d) where
 
   -- house mode looks at the cartridge alone
   landing-alike : (m : Mode) → b .cart .mode ≡ m → (a : ℕ) → isAccepted (writeLanding b a) ≡ isAccepted (writeLanding d a)
-  unfolding mmc1.writeWindowIn mmc1.ppuWriteIn mmc1.romWriteIn
+  unfolding mmc1.writeWindowIn mmc1.ppuWriteIn
   landing-alike House e a =
       ap isAccepted
       (lands-there House b (r .one .mapper) e a
-      ∙ ap (λ (c : Cartridge). landsIn c (inWindows (houseChr c) NoWindow a) a) (r .one .cart)
+      ∙ ap (λ (c : Cartridge). landsIn c (inWindows (houseChr c) Empty a) a) (r .one .cart)
       ∙ sym (lands-there House d (swapped (r .one) .mapper) (ap (λ (c : Cartridge). c .mode) (sym (r .one .cart)) ∙ e) a))
   landing-alike OnBoard e a = board-alike (r .one) e a
 

@@ -15,7 +15,7 @@ use Rattle.common.specs.declared.Mirrors.{Mirrors}
 use Rattle.common.specs.declared.Mirrors.the-variants.{AsBefore, As}
 use Rattle.mmc3.specs.Clock.{withIrq, clocked, clockIn}
 use Rattle.mmc3.specs.Read.{register}
-use Rattle.mmc3.specs.Write.{moveOf, keptBits, applied, screens, mirrorsOf, written}
+use Rattle.mmc3.specs.Write.{moveOf, dataBits, applied, screens, mirrorsOf, written}
 use Rattle.mmc3.specs.Range.{fits}
 use Rattle.mmc3.specs.declared.Irq.{Irq}
 use Rattle.mmc3.specs.declared.Mmc3.{Mmc3}
@@ -62,12 +62,12 @@ in-fits m p =
     (lt-ltb _ _ (p .select), lt-ltb _ _ (p .prgmode), lt-ltb _ _ (p .chrmode), eq-eqb _ _ (p .r0), eq-eqb _ _ (p .r1), lt-ltb _ _ (p .r6), lt-ltb _ _ (p .r7))
     refl
 
-kept-even : (s v : ℕ) → s < 2 → keptBits s v % 2 ≡ 0
-unfolding keptBits
+kept-even : (s v : ℕ) → s < 2 → dataBits s v % 2 ≡ 0
+unfolding dataBits
 kept-even s v h = rw (lt-ltb s 2 h) (omega arith)
 
-kept-six : (s v : ℕ) → 6 ≤ s → keptBits s v < 64
-unfolding keptBits
+kept-six : (s v : ℕ) → 6 ≤ s → dataBits s v < 64
+unfolding dataBits
 kept-six s v h = let g : 2 ≤ s = omega arith in rw (le-ltb s 2 g, le-leb 6 s h) (omega arith)
 
 data-ranged : (m : Mmc3) (v : ℕ) → Ranged m → Ranged (applied (Data v) m)
@@ -84,7 +84,7 @@ data-ranged m v p =
     }
   where
     x : ℕ
-    x = keptBits (m .select) v
+    x = dataBits (m .select) v
 
     even : (k : ℕ) → k < 2 → getD (m .regs) k 0 % 2 ≡ 0 → getD (set (m .regs) (m .select) x) k 0 % 2 ≡ 0
     even k h e =

@@ -6,7 +6,7 @@ use lib.ListN.{length}
 use Rattle.cartridge.specs.Load.{ramsFit}
 use Rattle.places.specs.Places.{byteAt, answerAt}
 use Rattle.places.specs.declared.Landing.{Landing}
-use Rattle.boards.specs.Start.{nothing}
+use Rattle.boards.specs.Start.{noBoard}
 use Rattle.boards.specs.Range.{inRange, isLoaded, guarded}
 use Rattle.boards.specs.Read as reads
 use Rattle.boards.specs.Write.{writeLanding, writtenAs, landing}
@@ -16,8 +16,8 @@ use Rattle.boards.specs.declared.Board.{Board}
 use Rattle.boards.specs.declared.Event.{Event}
 use Rattle.boards.specs.declared.Event.the-variants.{Read, Write, Clock}
 use Rattle.boards.specs.declared.Answer.the-variants.{Read as toRead, Write as toWrite}
-use Rattle.boards.proofs.Nothing.{nothing-is-out-of-range}
-use Rattle.laws.specs.Useless.{isRefusal}
+use Rattle.boards.proofs.NoBoard.{no-board-is-out-of-range}
+use Rattle.laws.specs.Calls.{isRefusal}
 
 no-read : (rams : Bool) (p : Landing) (byte : ℕ) → isRefusal (toRead (answerAt (guarded rams false p) byte)) ≡ true
 unfolding answerAt guarded
@@ -36,5 +36,5 @@ out-of-range-is-refused b h l (Read a) =
 out-of-range-is-refused b h l (Write a v) = rw h (no-write (ramsFit (length (l .prg)) (length (l .chr))) (writeLanding b a) b v a)
 out-of-range-is-refused b h l Clock = rw h refl
 
-pub nothing-is-refused : (l : Lent) (e : Event) → isRefusal (answer nothing l e) ≡ true
-nothing-is-refused l e = out-of-range-is-refused nothing nothing-is-out-of-range l e
+pub no-board-is-refused : (l : Lent) (e : Event) → isRefusal (answer noBoard l e) ≡ true
+no-board-is-refused l e = out-of-range-is-refused noBoard no-board-is-out-of-range l e

@@ -2,7 +2,7 @@
 -- Assumes nothing.
 use Prim.Native.Nat.{ℕ, zero, suc, _<_}
 use mathlib.Core.Path.{_≡_, refl, sym, ap, ap₂, _∙_}
-use mathlib.Core.List.{List, [], _∷_, map}
+use mathlib.Core.List.{List, [], _∷_, _++_, map}
 use native.Mathlib.Nat.{le-of-suc-le-suc}
 use native.Mathlib.Omega.{arith}
 use lib.ListN.{length, take, length-replicate}
@@ -57,6 +57,12 @@ wiped-moves b [] = refl
 wiped-moves b (call l e ∷ cs) =
     ap₂ _∷_ (wiped-made b l e) (ap (λ (x : Board). moves x (map wiped cs)) (wiped-next b l e) ∙ wiped-moves (next b l e) cs)
 
+-- a run in two parts
+pub after-append : (b : Board) (cs ds : List Call) → after b (cs ++ ds) ≡ after (after b cs) ds
+unfolding after
+after-append b [] ds = refl
+after-append b (call l e ∷ cs) ds = after-append (next b l e) cs ds
+
 -- so the same calls leave one board and make the same moves
 pub same-after : (b : Board) (cs ds : List Call) → SameCalls cs ds → after b cs ≡ after b ds
 same-after b cs ds same = sym (wiped-after b cs) ∙ ap (after b) same ∙ wiped-after b ds
@@ -65,10 +71,10 @@ pub same-moves : (b : Board) (cs ds : List Call) → SameCalls cs ds → moves b
 same-moves b cs ds same = sym (wiped-moves b cs) ∙ ap (moves b) same ∙ wiped-moves b ds
 
 -- a relation of two boards that every event keeps
-abbrev pub Kept : (Board → Board → Type 0) → Type 0
-Kept I = (b d : Board) → I b d → (l : Lent) (e : Event) → I (next b l e) (next d l e)
+abbrev pub Preserved : (Board → Board → Type 0) → Type 0
+Preserved I = (b d : Board) → I b d → (l : Lent) (e : Event) → I (next b l e) (next d l e)
 
-run : (I : Board → Board → Type 0) → Kept I → (b d : Board) → I b d → (cs : List Call) → I (after b cs) (after d cs)
+run : (I : Board → Board → Type 0) → Preserved I → (b d : Board) → I b d → (cs : List Call) → I (after b cs) (after d cs)
 unfolding after
 run I keep b d p [] = p
 run I keep b d p (call l e ∷ cs) = run I keep (next b l e) (next d l e) (keep b d p l e) cs
@@ -77,7 +83,7 @@ run I keep b d p (call l e ∷ cs) = run I keep (next b l e) (next d l e) (keep 
 abbrev pub Makes : (I : Board → Board → Type 0) (X : Board → Type 0) (r : Register) (J : Board → Board → Type 0) → Type 0
 Makes I X r J = (b d : Board) → I b d → X b → (l : Lent) (e : Event) (v : ℕ) → made b l e ≡ Fill r v → J (next b l e) (next d l e)
 
-module _ (I J : Board → Board → Type 0) (keep-I : Kept I) (keep-J : Kept J) (X : Board → Type 0) (r : Register) (makes : Makes I X r J) where
+module _ (I J : Board → Board → Type 0) (keep-I : Preserved I) (keep-J : Preserved J) (X : Board → Type 0) (r : Register) (makes : Makes I X r J) where
   -- such a load at a position leaves J at the end
   pub once : (b d : Board) → I b d → (cs : List Call) (i : ℕ) → LoadsAt b cs r i → X (after b (take i cs)) → J (after b cs) (after d cs)
   unfolding after moves
@@ -89,7 +95,7 @@ abbrev pub Any : Board → Type 0
 Any b = Unit {0}
 
 -- one load at a position and another after it
-module _ (I J K : Board → Board → Type 0) (keep-I : Kept I) (keep-J : Kept J) (keep-K : Kept K) (X : Board → Type 0) (r s : Register) (makes-J : Makes I Any r J) (makes-K : Makes J X s K) where
+module _ (I J K : Board → Board → Type 0) (keep-I : Preserved I) (keep-J : Preserved J) (keep-K : Preserved K) (X : Board → Type 0) (r s : Register) (makes-J : Makes I Any r J) (makes-K : Makes J X s K) where
   pub twice : (b d : Board) → I b d → (cs : List Call) (i j : ℕ) → i < j → LoadsAt b cs r i → LoadsAt b cs s j → X (after b (take j cs)) → K (after b cs) (after d cs)
   unfolding after moves
   twice b d p [] i j h l k x = absurd (no-load r (l .bits) (l .done))

@@ -7,9 +7,10 @@ use mathlib.Core.List.{List, [], _∷_}
 use native.Mathlib.Omega.{arith}
 use lib.Dec.{ltb, leb, eqb}
 use lib.ListN.{length}
-use borrow.Author.Tests.{ltb-false, lt-ltb, le-leb, eq-eqb}
+use borrow.Author.Tests.{ltb-true, ltb-false, leb-true, lt-ltb, le-leb, eq-eqb}
 use Rattle.rules.proofs.Bools.{and-right, and-both, split-3, split-4, either}
-use Rattle.common.specs.Answers.{mirroringLetter, same, isHeaders}
+use Rattle.common.specs.Answers.{same, isHeaders}
+use Rattle.common.proofs.Answers.{same-self}
 use Rattle.common.specs.declared.Mode.{Mode}
 use Rattle.common.specs.declared.Mode.the-variants.{House, Board as OnBoard}
 use Rattle.common.specs.declared.Mirroring.{Mirroring}
@@ -17,7 +18,8 @@ use Rattle.common.specs.declared.Mirrors.{Mirrors}
 use Rattle.common.specs.declared.Mirrors.the-variants.{AsBefore, As}
 use Rattle.memory.specs.Memory.{byte}
 use Rattle.cartridge.specs.Header.{headerOf, isInes, mapperOf, isSpecial, mirroringOf}
-use Rattle.cartridge.specs.Load.{badPrg, oddCounts, needed, couldLoad, firstOf, verdictOn, ramsFit, verdict, cartridgeOf, loadedAs}
+use Rattle.cartridge.specs.Load.{badPrg, noPowers, needed, couldLoad, ramsFit, verdict, cartridgeOf, loadedAs}
+use Rattle.cartridge.specs.Steps.{firstOf}
 use Rattle.cartridge.specs.Mappers.{mapperNumber, isMapper, mapperType}
 use Rattle.cartridge.specs.declared.Cartridge.{Cartridge}
 use Rattle.cartridge.specs.declared.MapperType.{MapperType}
@@ -35,7 +37,9 @@ use Rattle.mmc3.specs.Read as mmc3-read
 use Rattle.mmc3.specs.Range as mmc3
 use Rattle.boards.specs.Registers.{withMmc3, mmc1Start, start, partFits, fits, moved, ticked}
 use Rattle.boards.specs.Start.{startOf, loadedBoard}
-use Rattle.boards.specs.Range.{turnedFit, screensFit, mirroringFits, inRange, isLoaded}
+use Rattle.boards.specs.Range.{screensFit, mirroringFits, inRange, isLoaded}
+use Rattle.boards.specs.Steps.{turnedFit, screensBy}
+use Rattle.boards.proofs.Screens.{by-two-tests}
 use Rattle.boards.specs.Write.{nextMirroring, turned, acceptedWrite, landing}
 use Rattle.boards.specs.Clock.{acceptedClock, clock}
 use Rattle.boards.specs.Runs.{Lent, next, Call, call, after}
@@ -145,12 +149,12 @@ asked-fits k same headers = go (isMapper k Mmc1) (isMapper k Mmc3)
     go false true e = e
     go false false e = absurd (false≢true e)
 
-turns : (mode : Mode) (k : MapperType) (now header : Mirroring) (t : Mirrors) → mayAsk k t ≡ true → screensFit mode k (same now header) (isHeaders now) ≡ true
-    → screensFit mode k (same (nextMirroring mode now t) header) (isHeaders (nextMirroring mode now t)) ≡ true
-unfolding screensFit nextMirroring mayAsk
+turns : (mode : Mode) (k : MapperType) (now header : Mirroring) (t : Mirrors) → mayAsk k t ≡ true → screensFit mode k header now ≡ true
+    → screensFit mode k header (nextMirroring mode now t) ≡ true
+unfolding nextMirroring mayAsk screensBy
 turns House k now header t e h = h
 turns OnBoard k now header AsBefore e h = h
-turns OnBoard k now header (As m) e h = asked-fits k (same m header) (isHeaders m) e
+turns OnBoard k now header (As m) e h = sym (by-two-tests OnBoard k header m) ∙ asked-fits k (same m header) (isHeaders m) e
 
 -- the three parts of a board's range
 three : (b : Board) → inRange b ≡ true → (couldLoad (b .cart) ≡ true) × (fits (b .cart .mapper) (b .registers) ≡ true) × (mirroringFits b ≡ true)
@@ -216,11 +220,11 @@ negate : {x : Bool} → x ≡ false → not x ≡ true
 negate e = rw e refl
 
 -- what an accepted load keeps is as a load could leave it
-could-load : (s : List ℕ) (mode : Mode) (p c : ℕ) → byte s 4 < 256 → byte s 5 < 256 → verdict s mode p c ≡ Take → couldLoad (cartridgeOf (headerOf s) mode (length s)) ≡ true
-unfolding verdict verdictOn couldLoad cartridgeOf headerOf mirroringOf
+pub could-load : (s : List ℕ) (mode : Mode) (p c : ℕ) → byte s 4 < 256 → byte s 5 < 256 → verdict s mode p c ≡ Take → couldLoad (cartridgeOf (headerOf s) mode (length s)) ≡ true
+unfolding verdict firstOf couldLoad cartridgeOf headerOf mirroringOf
 could-load s mode p c h4 h5 e =
     let h = headerOf s in
-    let t = taken (not (ramsFit p c)) (ltb (length s) 16400 || not (isInes s)) (ltb 4 (mapperOf h)) (isSpecial h) (badPrg (mapperOf h) (h .prg)) (ltb (length s) (needed (h .prg) (h .chr))) (oddCounts mode (h .prg) (h .chr)) e in
+    let t = taken (not (ramsFit p c)) (ltb (length s) 16400 || not (isInes s)) (ltb 4 (mapperOf h)) (isSpecial h) (badPrg (mapperOf h) (h .prg)) (ltb (length s) (needed (h .prg) (h .chr))) (noPowers mode (h .prg) (h .chr)) e in
     join
     (join
     (join
@@ -228,10 +232,6 @@ could-load s mode p c h4 h5 e =
     (negate (t .3)))
     (join (join (lt-ltb (h .prg) 256 h4) (lt-ltb (h .chr) 256 h5)) (le-leb (needed (h .prg) (h .chr)) (length s) (ltb-false (length s) (needed (h .prg) (h .chr)) (t .2)))))
     (either (λ (m : Mirroring). isHeaders m ≡ true) (eqb (h .flags6 % 2) 1) refl refl)
-
-same-self : (m : Mirroring) → same m m ≡ true
-unfolding same
-same-self m = eq-eqb (mirroringLetter m) (mirroringLetter m) refl
 
 -- the start values of every mapper
 start-fits : (k : MapperType) → fits k (start k) ≡ true
@@ -245,17 +245,20 @@ start-fits k = whole k (start k) (holds (isMapper k Uxrom) refl refl, holds (isM
     of-mmc1 true = refl
     of-mmc1 false = refl
 
-start-screens : (mode : Mode) (k : MapperType) (m : Mirroring) → isHeaders m ≡ true → screensFit mode k (same m m) (isHeaders m) ≡ true
-unfolding screensFit turnedFit
+start-screens : (mode : Mode) (k : MapperType) (m : Mirroring) → isHeaders m ≡ true → screensFit mode k m m ≡ true
+unfolding screensFit
 start-screens House k m h = same-self m
-start-screens OnBoard k m h =
-    either (λ (t : Bool). t ≡ true) (isMapper k Mmc1) refl (either (λ (t : Bool). t ≡ true) (isMapper k Mmc3) h (same-self m))
+start-screens OnBoard Nrom m h = same-self m
+start-screens OnBoard Mmc1 m h = refl
+start-screens OnBoard Uxrom m h = same-self m
+start-screens OnBoard Cnrom m h = same-self m
+start-screens OnBoard Mmc3 m h = h
 
 headers : (c : Cartridge) → couldLoad c ≡ true → isHeaders (c .mirroring) ≡ true
 unfolding couldLoad
 headers c h =
     and-right
-    (not (badPrg (mapperNumber (c .mapper)) (c .prg)) && not (oddCounts (c .mode) (c .prg) (c .chr))
+    (not (badPrg (mapperNumber (c .mapper)) (c .prg)) && not (noPowers (c .mode) (c .prg) (c .chr))
     && (ltb (c .prg) 256 && ltb (c .chr) 256 && leb (needed (c .prg) (c .chr)) (c .length)))
     (isHeaders (c .mirroring)) h
 
@@ -302,3 +305,25 @@ loaded-in-range s mode p c h4 h5 e =
 -- "Greatest needed length: 6,266,896"
 pub greatest-length : needed 255 255 ≡ 6266896
 greatest-length = refl
+
+-- no counts of a byte each need more
+pub no-counts-need-more : (prg chr : ℕ) → prg < 256 → chr < 256 → needed prg chr ≤ 6266896
+no-counts-need-more prg chr p c = omega (arith, p, c)
+
+-- nor does a board in range, whose image has what it needs
+pub no-board-needs-more : (b : Board) → inRange b ≡ true → (needed (b .cart .prg) (b .cart .chr) ≤ 6266896) × (needed (b .cart .prg) (b .cart .chr) ≤ b .cart .length)
+unfolding couldLoad
+no-board-needs-more b h =
+    let c = b .cart in
+    let q = split-3 (not (badPrg (mapperNumber (c .mapper)) (c .prg)) && not (noPowers (c .mode) (c .prg) (c .chr))) (ltb (c .prg) 256 && ltb (c .chr) 256 && leb (needed (c .prg) (c .chr)) (c .length)) (isHeaders (c .mirroring)) (three b h .0) in
+    let r = split-3 (ltb (c .prg) 256) (ltb (c .chr) 256) (leb (needed (c .prg) (c .chr)) (c .length)) (q .1) in
+    (no-counts-need-more (c .prg) (c .chr) (ltb-true (c .prg) 256 (r .0)) (ltb-true (c .chr) 256 (r .1)), leb-true (needed (c .prg) (c .chr)) (c .length) (r .2))
+
+-- so no accepted image of bytes, and it has what it needs
+pub no-accepted-image-needs-more : (s : List ℕ) (mode : Mode) (p c : ℕ) → byte s 4 < 256 → byte s 5 < 256
+    → loadedBoard (loadedAs (verdict s mode p c) (cartridgeOf (headerOf s) mode (length s))) .answer ≡ Accepted
+    → (needed (byte s 4) (byte s 5) ≤ 6266896) × (needed (byte s 4) (byte s 5) ≤ length s)
+unfolding startOf cartridgeOf headerOf
+no-accepted-image-needs-more s mode p c h4 h5 e =
+    let t = accepted (verdict s mode p c) (cartridgeOf (headerOf s) mode (length s)) e in
+    no-board-needs-more (startOf (cartridgeOf (headerOf s) mode (length s))) (load-in-range s mode p c h4 h5 t)

@@ -11,7 +11,7 @@ use lib.ListN.{take}
 use borrow.Author.Tests.{ltb-false, le-ltb, eqb-true}
 use Rattle.rules.proofs.Bools.{split-3, either}
 use Rattle.common.specs.Common.{isSigned}
-use Rattle.common.specs.Answers.{same, mirroringLetter, isHeaders}
+use Rattle.common.proofs.Answers.{same-is}
 use Rattle.common.specs.declared.Mode.{Mode}
 use Rattle.common.specs.declared.Mode.the-variants.{House, Board as OnBoard}
 use Rattle.common.specs.declared.Mirroring.{Mirroring}
@@ -38,7 +38,7 @@ use Rattle.laws.specs.Calls.{OneImage, LentWrite, wrote, SameCalls}
 use Rattle.laws.specs.Loads.{accepts, made, moves}
 use Rattle.laws.specs.SettlesMmc1.{Clears, moveAt, isSerial, serialWrites, Settled, Agree, Settles}
 use Rattle.laws.proofs.Cases.{by-test}
-use Rattle.laws.proofs.Positions.{same-after, same-moves, Kept, Makes, Any, once, twice}
+use Rattle.laws.proofs.Positions.{same-after, same-moves, Preserved, Makes, Any, once, twice}
 use Rattle.laws.proofs.Ranges.{next-keeps-cart}
 use Rattle.laws.proofs.OneImage.{swapped, after-one, wrote-one}
 use Rattle.laws.proofs.Mmc1Moves.{boardAfter, own-move, next-is, no-load, chosen, one-prgmode, one-chrmode, one-chr0, one-chr1, one-prg, Common, one-move, by-move, next-common}
@@ -49,27 +49,12 @@ unfolding moves
 one-moves r [] = refl
 one-moves r (call l e ∷ cs) = ap₂ _∷_ (one-move r l e) (one-moves (next-common r l e) cs)
 
--- a mirroring is known by its letter
-named : ℕ → Mirroring
-named n = cond (eqb n 0x48) Horizontal (cond (eqb n 0x56) Vertical (cond (eqb n 0x55) SingleScreenUpper SingleScreenLower))
-
-named-is : (m : Mirroring) → named (mirroringLetter m) ≡ m
-unfolding named
-named-is Horizontal = refl
-named-is Vertical = refl
-named-is SingleScreenUpper = refl
-named-is SingleScreenLower = refl
-
-same-is : (m n : Mirroring) → same m n ≡ true → m ≡ n
-unfolding same
-same-is m n e = sym (named-is m) ∙ ap named (eqb-true (mirroringLetter m) (mirroringLetter n) e) ∙ named-is n
-
 -- in house mode the current mirroring is the header's
 house-screens : (b : Board) → inRange b ≡ true → b .cart .mode ≡ House → b .mirroring ≡ b .cart .mirroring
 unfolding inRange mirroringFits screensFit
 house-screens b h e =
     same-is (b .mirroring) (b .cart .mirroring)
-    (subst (λ (m : Mode). screensFit m (b .cart .mapper) (same (b .mirroring) (b .cart .mirroring)) (isHeaders (b .mirroring)) ≡ true) e
+    (subst (λ (m : Mode). screensFit m (b .cart .mapper) (b .cart .mirroring) (b .mirroring) ≡ true) e
     (split-3 (couldLoad (b .cart)) (fits (b .cart .mapper) (b .registers)) (mirroringFits b) h .2))
 
 -- what a control load makes one, and then CHR 0, CHR 1 and PRG loads
@@ -92,10 +77,10 @@ record Program (b d : Board) : Type 0 where
   prg : b .registers .mmc1 .regs .prg ≡ d .registers .mmc1 .regs .prg
 
 -- one move keeps each of them
-keep-common : Kept Common
+keep-common : Preserved Common
 keep-common b d r l e = next-common r l e
 
-keep-modes : Kept Modes
+keep-modes : Preserved Modes
 keep-modes b d r l e =
     let k = made b l e in
     let m = b .cart .mode in
@@ -108,7 +93,7 @@ keep-modes b d r l e =
       mirroring = by-move (r .common) (λ (x : Board). x .mirroring) l e (ap (λ (s : Mirroring). nextMirroring m s (mirrorsOf k)) (r .mirroring));
     }
 
-keep-first : Kept First
+keep-first : Preserved First
 keep-first b d r l e =
     record {
       modes = keep-modes b d (r .modes) l e;
@@ -117,7 +102,7 @@ keep-first b d r l e =
           (one-chr0 (b .registers .mmc1) (d .registers .mmc1) (b .cart .mode) (made b l e) (r .modes .chrmode) (r .chr0));
     }
 
-keep-second : Kept Second
+keep-second : Preserved Second
 keep-second b d r l e =
     record {
       modes = keep-modes b d (r .modes) l e;
@@ -126,7 +111,7 @@ keep-second b d r l e =
           (one-chr1 (b .registers .mmc1) (d .registers .mmc1) (b .cart .mode) (made b l e) (r .modes .chrmode) (r .chr1));
     }
 
-keep-program : Kept Program
+keep-program : Preserved Program
 keep-program b d r l e =
     record {
       common = next-common (r .common) l e;
@@ -232,7 +217,7 @@ unfolding moveOf
 clear-move w b e p =
     own-move b e (w .lent) (w .address) (w .byte) ∙ rw (p .accepted, le-ltb (w .address) 0x8000 (p .to-8000-FFFF), p .bit-7) refl
 
-emptied : (w : LentWrite) (b : Board) → b .cart .mapper ≡ Mmc1 → Clears w b → wrote b w .registers .mmc1 .serial ≡ empty
+pub emptied : (w : LentWrite) (b : Board) → b .cart .mapper ≡ Mmc1 → Clears w b → wrote b w .registers .mmc1 .serial ≡ empty
 unfolding applied
 emptied w b e p =
     ap (λ (x : Board). x .registers .mmc1 .serial) (next-is b e (w .lent) (Write (w .address) (w .byte)))

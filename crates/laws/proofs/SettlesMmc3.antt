@@ -12,7 +12,7 @@ use Rattle.cartridge.specs.declared.Cartridge.{Cartridge}
 use Rattle.cartridge.specs.declared.MapperType.{MapperType}
 use Rattle.cartridge.specs.declared.MapperType.the-variants.{Mmc3}
 use Rattle.places.specs.Windows.{inWindows, landsIn}
-use Rattle.places.specs.Windows.Window.{Nothing, Refused}
+use Rattle.places.specs.Windows.Window.{Empty, Refused}
 use Rattle.places.specs.declared.Landing.{Landing}
 use Rattle.mmc3.specs.Clock as mmc3-clock
 use Rattle.mmc3.specs.Read as mmc3
@@ -72,7 +72,7 @@ module _ {b d : Board} (r : Alike b d) (a : ℕ) where
   landing-alike House e =
       ap isAccepted
       (lands-there House b (r .one .mapper) e
-      ∙ ap₂ (λ (c : Cartridge) (i : Irq). landsIn c (inWindows Nothing (cond (mmc3-clock.isPending i && leb 0xE000 a && isEven a) (Refused IrqPending) Nothing) a) a) (r .one .cart) (r .irq)
+      ∙ ap₂ (λ (c : Cartridge) (i : Irq). landsIn c (inWindows Empty (cond (mmc3-clock.isPending i && leb 0xE000 a && isEven a) (Refused IrqPending) Empty) a) a) (r .one .cart) (r .irq)
       ∙ sym (lands-there House d (swapped (r .one) .mapper) (ap (λ (c : Cartridge). c .mode) (sym (r .one .cart)) ∙ e)))
   landing-alike OnBoard e = board-alike (r .one) e a
 

@@ -1,5 +1,5 @@
 -- For a board in range every place of a read or a write lies inside what it names, since a bank that ends past its data is refused.
--- In board mode none is refused, by the modulo rule. Assumes nothing.
+-- In board mode none is refused, by the modulo rule, and a byte is stored where it would be read, if that is RAM. Assumes nothing.
 use Prim.Native.Nat.{ℕ, _+_, _-_, _*_, _/_, _%_, _≤_, _<_}
 use mathlib.Core.Path.{_≡_, refl, sym, ap, _∙_, subst⁻¹}
 use mathlib.Core.Bool.{Bool, true, false, cond, not, _&&_, _||_}
@@ -15,14 +15,20 @@ use Rattle.banks.specs.Banks.{shown, startAt, bankStart}
 use Rattle.banks.specs.declared.Start.{Start}
 use Rattle.banks.specs.declared.Start.the-variants.{At, PastEnd}
 use Rattle.banks.proofs.Range.{modulo-rule}
-use Rattle.cartridge.specs.Load.{badPrg, oddCounts, needed, couldLoad, prgTotal, chrTotal, hasChrRam, lastPrg}
+use Rattle.cartridge.specs.Load.{badPrg, noPowers, needed, couldLoad, prgTotal, chrTotal, hasChrRam, lastPrg}
 use Rattle.cartridge.specs.Mappers.{mapperNumber}
 use Rattle.cartridge.specs.declared.Cartridge.{Cartridge}
 use Rattle.cartridge.specs.declared.MapperType.{MapperType}
 use Rattle.cartridge.specs.declared.MapperType.the-variants.{Nrom, Mmc1, Uxrom, Cnrom, Mmc3}
 use Rattle.places.specs.Places.{prgAt, chrAt, inPrg, inChr}
-use Rattle.places.specs.Windows.{Window, landsIn, fixedPrg, inWindows}
-use Rattle.places.specs.Windows.Window.{Prg16K, Prg8K, Chr8K, Chr4K, Chr1K, PrgRam, ChrRam, Nothing, Refused}
+use Rattle.places.specs.Windows.{Window, landsIn, fixedBlock, fixedPrg, boardChr, boardChrRam, inWindows}
+use Rattle.places.specs.Windows.Window.{Prg16K, Prg8K, Chr8K, Chr4K, Chr1K, PrgRam, ChrRam, Empty, Refused}
+use Rattle.places.specs.Steps.{ifChrRam}
+use Rattle.places.specs.declared.Place.the-variants as place
+use Rattle.places.specs.declared.Place.the-variants.{Nowhere}
+use Rattle.places.specs.declared.Landing.{Landing}
+use Rattle.places.specs.declared.Landing.the-variants.{At as InPlace, Refused as NotLanded}
+use Rattle.places.proofs.Windows.{lands-in-ram}
 use Rattle.nrom.specs.Nrom as nrom
 use Rattle.uxrom.specs.Uxrom as uxrom
 use Rattle.cnrom.specs.Cnrom as cnrom
@@ -34,8 +40,8 @@ use Rattle.boards.specs.Read.{readWindowOn, readLanding}
 use Rattle.boards.specs.Write.{writeWindowOn, writeLanding}
 use Rattle.boards.specs.declared.Board.{Board}
 use Rattle.boards.specs.declared.Registers.{Registers}
-use Rattle.laws.specs.Within.{Lies, Found}
-use Rattle.laws.proofs.Cases.{by-test}
+use Rattle.laws.specs.Within.{Lies, ramAt, Found}
+use Rattle.laws.proofs.Cases.{by-test, alike}
 
 -- what the range of a board says of its cartridge: some PRG, and room for all blocks
 record Roomy (c : Cartridge) : Type 0 where
@@ -47,8 +53,8 @@ unfolding inRange couldLoad badPrg
 roomy b h =
     let c = b .cart in
     let p = split-3 (couldLoad c) (fits (b .cart .mapper) (b .registers)) (mirroringFits b) h in
-    let q = split-3 (not (badPrg (mapperNumber (c .mapper)) (c .prg)) && not (oddCounts (c .mode) (c .prg) (c .chr))) (ltb (c .prg) 256 && ltb (c .chr) 256 && leb (needed (c .prg) (c .chr)) (c .length)) (isHeaders (c .mirroring)) (p .0) in
-    let n = not-true (badPrg (mapperNumber (c .mapper)) (c .prg)) (and-left (not (badPrg (mapperNumber (c .mapper)) (c .prg))) (not (oddCounts (c .mode) (c .prg) (c .chr))) (q .0)) in
+    let q = split-3 (not (badPrg (mapperNumber (c .mapper)) (c .prg)) && not (noPowers (c .mode) (c .prg) (c .chr))) (ltb (c .prg) 256 && ltb (c .chr) 256 && leb (needed (c .prg) (c .chr)) (c .length)) (isHeaders (c .mirroring)) (p .0) in
+    let n = not-true (badPrg (mapperNumber (c .mapper)) (c .prg)) (and-left (not (badPrg (mapperNumber (c .mapper)) (c .prg))) (not (noPowers (c .mode) (c .prg) (c .chr))) (q .0)) in
     record {
       some = nonzero (c .prg) ((eqb (mapperNumber (c .mapper)) 0 || eqb (mapperNumber (c .mapper)) 3) && ltb 2 (c .prg)) n;
       room = leb-true (needed (c .prg) (c .chr)) (c .length) (split-3 (ltb (c .prg) 256) (ltb (c .chr) 256) (leb (needed (c .prg) (c .chr)) (c .length)) (q .1) .2);
@@ -96,7 +102,7 @@ lies-in c r (Chr4K n) a = chr-lies c r KB4 n (a % KB4) (omega arith)
 lies-in c r (Chr1K n) a = chr-lies c r KB1 n (a % KB1) (omega arith)
 lies-in c r PrgRam a = omega arith
 lies-in c r ChrRam a = omega arith
-lies-in c r Nothing a = tt
+lies-in c r Empty a = tt
 lies-in c r (Refused why) a = tt
 
 -- every place of a read
@@ -118,7 +124,7 @@ Opens (Chr4K n) = Unit {0}
 Opens (Chr1K n) = Unit {0}
 Opens PrgRam = Unit {0}
 Opens ChrRam = Unit {0}
-Opens Nothing = Unit {0}
+Opens Empty = Unit {0}
 Opens (Refused why) = ⊥
 
 -- board mode: "Refusals 11 to 14 do not occur": no bank ends past its data, by the modulo rule
@@ -150,7 +156,7 @@ module _ (c : Cartridge) (r : Roomy c) (e : c .mode ≡ OnBoard) where
   found-in (Chr1K n) o a = chr-found KB1 n (a % KB1) (omega arith) (omega arith)
   found-in PrgRam o a = tt
   found-in ChrRam o a = tt
-  found-in Nothing o a = tt
+  found-in Empty o a = tt
   found-in (Refused why) o a = absurd o
 
   -- and the board itself refuses none
@@ -171,22 +177,101 @@ module _ (c : Cartridge) (r : Roomy c) (e : c .mode ≡ OnBoard) where
       subst⁻¹ (λ (m : Mode). Opens (cnrom.readWindowIn m (x .cnrom) c a)) e (either Opens (ltb a 0x2000) tt (fixed-opens a))
   reads-open Mmc3 x a = windows-open _ _ a tt tt
 
-  -- a byte is stored where it would be read
-  stored-where-read : (k : MapperType) (x : Registers) (a : ℕ) → writeWindowOn k x c a ≡ readWindowOn k x c a
-  unfolding writeWindowOn readWindowOn nrom.writeWindowIn uxrom.writeWindowIn cnrom.writeWindowIn cnrom.readWindowIn mmc1.writeWindowIn mmc1.ppuWriteIn mmc1.romWriteIn mmc1.readWindow mmc3.writeWindowIn mmc3.ppuWriteIn mmc3.romWriteIn mmc3.readWindow
-  stored-where-read Nrom x a = ap (λ (m : Mode). nrom.writeWindowIn m c a) e
-  stored-where-read Mmc1 x a = ap (λ (m : Mode). mmc1.writeWindowIn m (x .mmc1) c a) e
-  stored-where-read Uxrom x a = ap (λ (m : Mode). uxrom.writeWindowIn m (x .uxrom) c a) e
-  stored-where-read Cnrom x a =
-      ap (λ (m : Mode). cnrom.writeWindowIn m (x .cnrom) c a) e ∙ sym (ap (λ (m : Mode). cnrom.readWindowIn m (x .cnrom) c a) e)
-  stored-where-read Mmc3 x a = ap (λ (m : Mode). mmc3.writeWindowIn m (x .mmc3) c a) e
+  module _ (a : ℕ) where
+    -- a byte that is written to one window goes where the other is read, if that is RAM
+    abbrev Stores : Window → Window → Type 0
+    Stores w v = landsIn c w a ≡ ramAt (landsIn c v a)
+
+    no-rom : (s : Start) (i : ℕ) → Found (prgAt s i) → InPlace Nowhere ≡ ramAt (prgAt s i)
+    unfolding prgAt
+    no-rom (At s) i f = refl
+    no-rom PastEnd i f = absurd f
+
+    if-ram : (ram : Bool) (s : Start) (i : ℕ) → Found (chrAt ram s i) → cond ram (chrAt ram s i) (InPlace Nowhere) ≡ ramAt (chrAt ram s i)
+    unfolding chrAt
+    if-ram true (At s) i f = refl
+    if-ram false (At s) i f = refl
+    if-ram true PastEnd i f = absurd f
+    if-ram false PastEnd i f = absurd f
+
+    prg-ignores : (size n : ℕ) → 0 < size → size ≤ KB16 → InPlace Nowhere ≡ ramAt (inPrg c size n (a % size))
+    unfolding inPrg
+    prg-ignores size n p h = no-rom (bankStart (c .mode) n size (prgTotal c)) (a % size) (prg-found size n (a % size) p h)
+
+    chr-stores : (size n : ℕ) → 0 < size → size ≤ KB8 → ifChrRam c (inChr c size n (a % size)) ≡ ramAt (inChr c size n (a % size))
+    unfolding ifChrRam inChr
+    chr-stores size n p h = if-ram (hasChrRam c) (bankStart (c .mode) n size (chrTotal c)) (a % size) (chr-found size n (a % size) p h)
+
+    rom-16K : (n : ℕ) → Stores Empty (Prg16K n)
+    unfolding landsIn
+    rom-16K n = prg-ignores KB16 n (omega arith) (omega arith)
+
+    rom-8K : (n : ℕ) → Stores Empty (Prg8K n)
+    unfolding landsIn
+    rom-8K n = prg-ignores KB8 n (omega arith) (omega arith)
+
+    chr-8K : (n : ℕ) → Stores (boardChr c (Chr8K n)) (Chr8K n)
+    unfolding landsIn
+    chr-8K n = sym (lands-in-ram c (Chr8K n) a) ∙ chr-stores KB8 n (omega arith) (omega arith)
+
+    chr-4K : (n : ℕ) → Stores (boardChr c (Chr4K n)) (Chr4K n)
+    unfolding landsIn
+    chr-4K n = sym (lands-in-ram c (Chr4K n) a) ∙ chr-stores KB4 n (omega arith) (omega arith)
+
+    chr-1K : (n : ℕ) → Stores (boardChr c (Chr1K n)) (Chr1K n)
+    unfolding landsIn
+    chr-1K n = sym (lands-in-ram c (Chr1K n) a) ∙ chr-stores KB1 n (omega arith) (omega arith)
+
+    no-window : Stores Empty Empty
+    unfolding landsIn
+    no-window = refl
+
+    prg-ram : Stores PrgRam PrgRam
+    unfolding landsIn
+    prg-ram = refl
+
+    fixed : Stores Empty (fixedPrg c a)
+    unfolding fixedPrg
+    fixed = either (Stores Empty) (ltb a 0x8000) no-window (rom-16K (fixedBlock c a))
+
+    windows-store : (w v r : Window) → Stores w v → Stores Empty r → Stores (inWindows w Empty a) (inWindows v r a)
+    unfolding inWindows
+    windows-store w v r p q = alike Stores (ltb a 0x2000) p (alike Stores (ltb a 0x6000) no-window (alike Stores (ltb a 0x8000) prg-ram q))
+
+    stored-where-read : (k : MapperType) (x : Registers) → Stores (writeWindowOn k x c a) (readWindowOn k x c a)
+    unfolding writeWindowOn readWindowOn boardChrRam nrom.readWindow nrom.writeWindowIn uxrom.readWindow uxrom.writeWindowIn cnrom.writeWindowIn cnrom.readWindowIn cnrom.boardReadWindow mmc1.writeWindowIn mmc1.ppuWriteIn mmc1.readWindow mmc3.writeWindowIn mmc3.ppuWriteIn mmc3.romWriteIn mmc3.readWindow
+    stored-where-read Nrom x = subst⁻¹ (λ (m : Mode). Stores (nrom.writeWindowIn m c a) (nrom.readWindow c a)) e (alike Stores (ltb a 0x2000) (chr-8K 0) fixed)
+    stored-where-read Mmc1 x =
+        subst⁻¹ (λ (m : Mode). Stores (mmc1.writeWindowIn m (x .mmc1) c a) (mmc1.readWindow (x .mmc1) c a)) e
+        (windows-store _ _ _ (chr-4K (mmc1.chrBank (x .mmc1) c a)) (rom-16K (mmc1.prgBank (x .mmc1) c a)))
+    stored-where-read Uxrom x =
+        subst⁻¹ (λ (m : Mode). Stores (uxrom.writeWindowIn m (x .uxrom) c a) (uxrom.readWindow (x .uxrom) c a)) e
+        (alike Stores (ltb a 0x2000) (chr-8K 0) (either (Stores Empty) (ltb a 0x8000) no-window (either (Stores Empty) (ltb a 0xC000) (rom-16K (x .uxrom .bank)) (rom-16K (lastPrg c)))))
+    stored-where-read Cnrom x =
+        subst⁻¹ (λ (m : Mode). Stores (cnrom.writeWindowIn m (x .cnrom) c a) (cnrom.readWindowIn m (x .cnrom) c a)) e
+        (alike Stores (ltb a 0x2000) (chr-8K (x .cnrom .bank)) fixed)
+    stored-where-read Mmc3 x =
+        subst⁻¹ (λ (m : Mode). Stores (mmc3.writeWindowIn m (x .mmc3) c a) (mmc3.readWindow (x .mmc3) c a)) e
+        (windows-store _ _ _ (chr-1K (mmc3.chrBank (x .mmc3) (a / 1024))) (rom-8K (mmc3.prgBank (x .mmc3) c a)))
+
+-- no refusal comes of leaving ROM out
+still-found : (l : Landing) → Found l → Found (ramAt l)
+still-found (InPlace (place.Prg i)) f = tt
+still-found (InPlace (place.Chr i)) f = tt
+still-found (InPlace (place.PrgRam i)) f = tt
+still-found (InPlace (place.ChrRam i)) f = tt
+still-found (InPlace Nowhere) f = tt
+still-found (NotLanded why) f = absurd f
 
 module _ (b : Board) (e : b .cart .mode ≡ OnBoard) (ok : inRange b ≡ true) (a : ℕ) where
   pub board-reads : Found (readLanding b a)
   unfolding readLanding
   board-reads = found-in (b .cart) (roomy b ok) e _ (reads-open (b .cart) (roomy b ok) e (b .cart .mapper) (b .registers) a) a
 
-  pub board-writes : Found (writeLanding b a)
+  -- "CHR RAM is read and written through the banks, on all boards; CHR ROM ignores writes": a byte is stored where it would be read, if that is RAM
+  pub board-stores-where-it-reads : writeLanding b a ≡ ramAt (readLanding b a)
   unfolding writeLanding readLanding
-  board-writes =
-      subst⁻¹ (λ (w : Window). Found (landsIn (b .cart) w a)) (stored-where-read (b .cart) (roomy b ok) e (b .cart .mapper) (b .registers) a) board-reads
+  board-stores-where-it-reads = stored-where-read (b .cart) (roomy b ok) e a (b .cart .mapper) (b .registers)
+
+  pub board-writes : Found (writeLanding b a)
+  board-writes = subst⁻¹ Found board-stores-where-it-reads (still-found (readLanding b a) board-reads)

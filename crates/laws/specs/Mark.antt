@@ -31,7 +31,7 @@ withByte7 v s = set s 7 v
 abbrev pub lentWith : ℕ → Lent → Lent
 lentWith v l = lent (withByte7 v (l .image)) (l .prg) (l .chr)
 
--- the call with it
+-- the call with that image
 abbrev pub callWith : ℕ → Call → Call
 callWith v (call l e) = call (lentWith v l) e
 

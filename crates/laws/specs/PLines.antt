@@ -38,7 +38,7 @@ loadOf mode s = loadWith mode s ram ram
 abbrev pub withRams : List ℕ → Lent
 withRams s = lent s ram ram
 
--- events, each with these
+-- events as calls, each lent the image and both RAMs
 abbrev pub callsOf : List ℕ → List Event → List Call
 callsOf s es = map (call (withRams s)) es
 
@@ -90,7 +90,7 @@ pub record Row : Type 0 where
 abbrev pub row : Question → List ℕ → Row
 row q w = record { asked = q; wanted = w }
 
--- the images of the rows
+-- NROM, one PRG block, CHR RAM
 abbrev pub nrom : List ℕ
 nrom = image 16400 1 0 0x00
 
@@ -106,11 +106,11 @@ cnrom = header 1 0 0x30 0 ++ replicate 16383 0 ++ 9 ∷ []
 abbrev pub mmc1 : List ℕ
 mmc1 = image 16400 1 0 0x11
 
--- MMC3
+-- MMC3, one PRG block, CHR RAM
 abbrev pub mmc3 : List ℕ
 mmc3 = image 16400 1 0 0x40
 
--- the writes that P7 and P8 name
+-- the five writes that P7 names
 abbrev pub fiveBits : List Event
 fiveBits = Write 0x8000 1 ∷ Write 0x8000 1 ∷ Write 0x8000 0 ∷ Write 0x8000 0 ∷ Write 0x8000 1 ∷ []
 
@@ -118,7 +118,7 @@ fiveBits = Write 0x8000 1 ∷ Write 0x8000 1 ∷ Write 0x8000 0 ∷ Write 0x8000
 abbrev pub fiveOnes : List Event
 fiveOnes = Write 0xE000 1 ∷ Write 0xE000 1 ∷ Write 0xE000 1 ∷ Write 0xE000 1 ∷ Write 0xE000 1 ∷ []
 
--- of P8: four bits, byte 80, five zeros
+-- the writes that P8 names: four bits, byte 80, five zeros
 abbrev pub fourAndFive : List Event
 fourAndFive =
     Write 0xE000 1 ∷ Write 0xE000 1 ∷ Write 0xE000 1 ∷ Write 0xE000 1 ∷ Write 0xE000 0x80

@@ -32,7 +32,7 @@ isSerial Clear = false
 isSerial (Enter s) = true
 isSerial (Fill r v) = true
 
--- how many of the moves are
+-- how many moves of a list are serial writes
 abbrev pub serialWrites : List Move → ℕ
 serialWrites [] = 0
 serialWrites (k ∷ ks) = cond (isSerial k) 1 0 + serialWrites ks
@@ -70,13 +70,13 @@ pub record Agree (b d : Board) : Type 0 where
 pub record Settles (b d : Board) (cs ds : List Call) : Type 0 where
   -- "The same writes complete loads, in the same registers, with the same five bits": all moves are the same
   pub the-same-loads : moves b cs ≡ moves d ds
-  -- "and none before the fifth serial write": up to and with the call that completes one there are at least five
+  -- "none before the fifth serial write": up to and with the call that completes one there are at least five
   pub none-before-the-fifth : (i : ℕ) (r : Register) → LoadsAt b cs r i → 5 ≤ serialWrites (take (i + 1) (moves b cs))
   -- "Once there have been a control load, ..": "the boards agree in all that answers depend on"
   pub the-boards-agree : Settled b cs → Agree (after b cs) (after d ds)
   -- "so with equal RAM bytes all later answers agree (reads with their refusals, notices, clocks)": each event is lent what the one before left
   pub later-answers-agree : Settled b cs → (l : Lent) (es : List Event) → played (moment (after b cs) l) es ≡ played (moment (after d ds) l) es
-  -- and the RAM bytes stay equal
+  -- the RAM bytes stay equal
   pub rams-stay-equal : Settled b cs → (l : Lent) (es : List Event) → ended (moment (after b cs) l) es .lent ≡ ended (moment (after d ds) l) es .lent
-  -- and answers agree whatever is lent to each call, as long as both boards are lent the same
+  -- all later answers agree whatever is lent to each call, as long as both boards are lent the same
   pub whatever-is-lent : Settled b cs → (later : List Call) → answers (after b cs) later ≡ answers (after d ds) later

@@ -32,15 +32,15 @@ pub record Arming : Type 0 where
   pub reload : LentWrite
   pub enable : LentWrite
 
--- the board after the first
+-- the board after the first of the three
 abbrev pub latched : Board → Arming → Board
 latched b w = wrote b (w .latch)
 
--- after the second
+-- the board after the second of the three
 abbrev pub reloaded : Board → Arming → Board
 reloaded b w = wrote (latched b w) (w .reload)
 
--- after the third
+-- the board after all three
 abbrev pub armed : Board → Arming → Board
 armed b w = wrote (reloaded b w) (w .enable)
 

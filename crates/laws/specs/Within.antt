@@ -16,6 +16,15 @@ Lies c (At (ChrRam i)) = i < 8192
 Lies c (At Nowhere) = Unit {0}
 Lies c (Refused why) = Unit {0}
 
+-- where a byte goes that is written where it would be read: RAM takes it, "CHR ROM ignores writes", and so does PRG ROM
+abbrev pub ramAt : Landing → Landing
+ramAt (At (Prg i)) = At Nowhere
+ramAt (At (Chr i)) = At Nowhere
+ramAt (At (PrgRam i)) = At (PrgRam i)
+ramAt (At (ChrRam i)) = At (ChrRam i)
+ramAt (At Nowhere) = At Nowhere
+ramAt (Refused why) = Refused why
+
 -- a landing that is no refusal
 abbrev pub Found : Landing → Type 0
 Found (At p) = Unit {0}

@@ -10,7 +10,7 @@ fn lend(irq: Irq, mode: Mode) -> Clocked
     ensures { λ r. ⌜ r ≡ clockIn mode irq ⌝ }
 {
     let mut unit = irq;
-    let answer = lent::clock(&mut unit, mode);
+    let answer = lent_irq::clock(&mut unit, mode);
     Clocked { irq: unit, answer }
 }
 

@@ -17,6 +17,6 @@ tail s a = drop a s
 abbrev pub part : List ℕ → ℕ → ℕ → List ℕ
 part s a size = take size (drop a s)
 
--- all of src, where it has just the length of dst; else what dst held
+-- a copy of src, where it has just the length of dst; else what dst held
 unfoldable pub copied : List ℕ → List ℕ → List ℕ
 copied dst src = cond (eqb (length dst) (length src)) src dst

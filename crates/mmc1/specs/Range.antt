@@ -15,7 +15,7 @@ start = record { serial = empty; regs = record { prgmode = 3; chrmode = 0; chr0 
 abbrev pub unused : Mmc1
 unused = record { serial = empty; regs = record { prgmode = 0; chrmode = 0; chr0 = 0; chr1 = 0; prg = 0 } }
 
--- whether all of them are 0
+-- every field is at that value
 unfoldable pub isUnused : Mmc1 → Bool
 isUnused m =
     eqb (m .serial .count) 0
@@ -34,6 +34,6 @@ serialFits s = ltb (s .count) 5 && ltb (s .value) 32 && eqb (s .value % 2 ^ (5 -
 unfoldable pub regsFits : Regs → Bool
 regsFits r = ltb (r .prgmode) 4 && ltb (r .chrmode) 2 && ltb (r .chr0) 32 && ltb (r .chr1) 32 && ltb (r .prg) 16
 
--- both halves in their ranges
+-- the serial register and the others are in their ranges
 unfoldable pub fits : Mmc1 → Bool
 fits m = serialFits (m .serial) && regsFits (m .regs)

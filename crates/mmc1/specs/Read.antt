@@ -9,8 +9,8 @@ use Rattle.common.specs.declared.Mode.the-variants.{House, Board}
 use Rattle.banks.specs.Banks.{bankStart, bankOf}
 use Rattle.cartridge.specs.Load.{lastPrg, prgTotal, chrTotal, prgRom, chrData}
 use Rattle.cartridge.specs.declared.Cartridge.{Cartridge}
-use Rattle.places.specs.Windows.{Window, inWindows, houseChr}
-use Rattle.places.specs.Windows.Window.{Prg16K, Chr4K, Nothing}
+use Rattle.places.specs.Windows.{Window, inWindows, houseChr, boardChr}
+use Rattle.places.specs.Windows.Window.{Prg16K, Chr4K, Empty}
 use Rattle.mmc1.specs.Write.{switches8Kb}
 use Rattle.mmc1.specs.declared.Regs.{Regs}
 use Rattle.mmc1.specs.declared.Mmc1.{Mmc1}
@@ -57,21 +57,16 @@ prgBank m c a = cond (ltb a 0xC000) (lowerPrg (c .mode) (m .regs)) (upperPrg (c 
 unfoldable pub readWindow : Mmc1 → Cartridge → ℕ → Window
 readWindow m c a = inWindows (Chr4K (chrBank m c a)) (Prg16K (prgBank m c a)) a
 
--- house: "PPU writes go to CHR RAM unbanked"; board: "CHR RAM is read and written through the banks, on all boards"
+-- house: "PPU writes go to CHR RAM unbanked"; board: "CHR RAM is read and written through the banks, on all boards; CHR ROM ignores writes"
 unfoldable pub ppuWriteIn : Mode → Mmc1 → Cartridge → ℕ → Window
 ppuWriteIn House m c a = houseChr c
-ppuWriteIn Board m c a = Chr4K (chrBank m c a)
+ppuWriteIn Board m c a = boardChr c (Chr4K (chrBank m c a))
 
--- house: no byte lands; board: where it would be read
-unfoldable pub romWriteIn : Mode → Mmc1 → Cartridge → ℕ → Window
-romWriteIn House m c a = Nothing
-romWriteIn Board m c a = Prg16K (prgBank m c a)
-
--- what a write finds in each mode
+-- what a write finds in each mode; at 8000-FFFF it stores no byte, and only moves registers
 unfoldable pub writeWindowIn : Mode → Mmc1 → Cartridge → ℕ → Window
-writeWindowIn mode m c a = inWindows (ppuWriteIn mode m c a) (romWriteIn mode m c a) a
+writeWindowIn mode m c a = inWindows (ppuWriteIn mode m c a) Empty a
 
--- in the mode that the cartridge has
+-- what a write finds, in the mode that the cartridge has
 abbrev pub writeWindow : Mmc1 → Cartridge → ℕ → Window
 writeWindow m c a = writeWindowIn (c .mode) m c a
 

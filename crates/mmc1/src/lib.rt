@@ -1,7 +1,7 @@
 // MMC1: a serial register and the four registers that it loads. Ported from potatis nes/src/mappers/mmc1.rs.
 ghost use mathlib.Core.Path.{_≡_};
 ghost use Rattle.places.specs.Places.{byteAt};
-ghost use Rattle.places.specs.Windows.{landsIn};
+ghost use Rattle.places.specs.Windows.{landsIn, boardChr};
 ghost use Rattle.places.specs.Windows.Window.{Chr4K, Prg16K};
 ghost use Rattle.mmc1.specs.Write.{shifted, registerAt, moveOf, reset, switches8Kb, storedChr0, storedChr1, load, applied, controlMirroring, mirrorsOf, written};
 ghost use Rattle.mmc1.specs.Read.{switches32Kb, prgPair, chrPair, lowerPrg, upperPrg, lowerChr, upperChr, chrBank, prgBank, readWindow, writeWindow, lowerPrgBank, upperPrgBank, lowerChrBank, upperChrBank};
@@ -419,7 +419,13 @@ impl Mmc1 {
         }
     }
 
-    // On the real board a byte is stored where it would be read; the Rust has rules of its own.
+    fn board_write_chr(self, cart: Cartridge, address: u16) -> Landing
+        ensures { λ r. ⌜ r ≡ landsIn cart (boardChr cart (Chr4K (chrBank self cart address))) address ⌝ }
+    {
+        places::if_chr_ram(cart, self.read_chr(cart, address))
+    }
+
+    // At 8000-FFFF no byte is stored: the registers are there.
     pub fn write_landing(self, cart: Cartridge, address: u16) -> Landing
         ensures { λ r. ⌜ r ≡ landsIn cart (writeWindow self cart address) address ⌝ }
     {
@@ -427,13 +433,9 @@ impl Mmc1 {
         match address {
             0x0000..=0x1fff => match mode {
                 Mode::House => places::house_chr(cart, address),
-                Mode::Board => self.read_chr(cart, address),
+                Mode::Board => self.board_write_chr(cart, address),
             },
             0x6000..=0x7fff => places::prg_ram(cart, address),
-            0x8000..=0xffff => match mode {
-                Mode::House => Landing::At(Place::Nowhere),
-                Mode::Board => self.read_prg(cart, address),
-            },
             _ => Landing::At(Place::Nowhere),
         }
     }

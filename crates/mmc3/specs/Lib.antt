@@ -2,3 +2,4 @@ pub mod Clock
 pub mod Write
 pub mod Read
 pub mod Range
+pub mod Steps

@@ -27,8 +27,8 @@ moveOf v a =
     (cond (isEven a) Disable Enable))))
 
 -- "R0 and R1 lose bit 0, R6 and R7 keep six bits"
-unfoldable pub keptBits : ℕ → ℕ → ℕ
-keptBits select v = cond (ltb select 2) (v / 2 * 2) (cond (leb 6 select) (v % 64) v)
+unfoldable pub dataBits : ℕ → ℕ → ℕ
+dataBits select v = cond (ltb select 2) (v / 2 * 2) (cond (leb 6 select) (v % 64) v)
 
 -- the board after a move
 unfoldable pub applied : Move → Mmc3 → Mmc3
@@ -41,7 +41,7 @@ applied (Data v) m =
       select = m .select;
       prgmode = m .prgmode;
       chrmode = m .chrmode;
-      regs = set (m .regs) (m .select) (keptBits (m .select) v);
+      regs = set (m .regs) (m .select) (dataBits (m .select) v);
       irq = m .irq;
     }
 -- a mirroring is no register of this board

@@ -1,11 +1,12 @@
 // MMC3: eight bank registers, and a counter that asks for an interrupt. Ported from potatis nes/src/mappers/mmc3.rs.
 ghost use mathlib.Core.Path.{_≡_};
 ghost use Prim.Native.Nat.{_/_};
-ghost use Rattle.places.specs.Windows.{landsIn};
+ghost use Rattle.places.specs.Windows.{landsIn, boardChr};
 ghost use Rattle.places.specs.Windows.Window.{Chr1K, Prg8K};
 ghost use Rattle.mmc3.specs.Clock.{at, houseClock, nextCounter, boardClock, clockIn, clocked, isPending};
-ghost use Rattle.mmc3.specs.Write.{moveOf, keptBits, applied, screens, mirrorsOf, written};
-ghost use Rattle.mmc3.specs.Read.{choice, register, chrBank, lastBank, lastButOne, prgBank, readWindow, acknowledged, writeWindow};
+ghost use Rattle.mmc3.specs.Write.{moveOf, dataBits, applied, screens, mirrorsOf, written};
+ghost use Rattle.mmc3.specs.Read.{register, chrBank, lastBank, lastButOne, prgBank, readWindow, acknowledged, writeWindow};
+ghost use Rattle.mmc3.specs.Steps.{choice};
 ghost use Rattle.mmc3.specs.Range.{start, irqIsStart, isStart, fits};
 use banks::Bank1K;
 use banks::Bank8K;
@@ -154,8 +155,8 @@ fn choice(mode: u8, slot: u16) -> u8
 }
 
 // What register a data write fills decides which of its bits are kept.
-fn kept_bits(select: u8, value: u8) -> u8
-    ensures { λ r. ⌜ r ≡ keptBits select value ⌝ }
+fn data_bits(select: u8, value: u8) -> u8
+    ensures { λ r. ⌜ r ≡ dataBits select value ⌝ }
 {
     if select < 2 {
         value / 2 * 2
@@ -387,7 +388,13 @@ impl Mmc3 {
         }
     }
 
-    // On the real board a byte is stored where it would be read; the Rust has rules of its own.
+    fn board_write_chr(self, cart: Cartridge, address: u16) -> Landing
+        ensures { λ r. ⌜ r ≡ landsIn cart (boardChr cart (Chr1K (chrBank self (address / 1024)))) address ⌝ }
+    {
+        places::if_chr_ram(cart, self.read_chr(cart, address))
+    }
+
+    // At 8000-FFFF no byte is stored: the registers are there.
     pub fn write_landing(self, cart: Cartridge, address: u16) -> Landing
         ensures { λ r. ⌜ r ≡ landsIn cart (writeWindow self cart address) address ⌝ }
     {
@@ -395,12 +402,12 @@ impl Mmc3 {
         match address {
             0x0000..=0x1fff => match mode {
                 Mode::House => Landing::At(Place::Nowhere),
-                Mode::Board => self.read_chr(cart, address),
+                Mode::Board => self.board_write_chr(cart, address),
             },
             0x6000..=0x7fff => places::prg_ram(cart, address),
             0x8000..=0xffff => match mode {
                 Mode::House => self.acknowledged(cart, address),
-                Mode::Board => self.read_prg(cart, address),
+                Mode::Board => Landing::At(Place::Nowhere),
             },
             _ => Landing::At(Place::Nowhere),
         }
@@ -419,7 +426,7 @@ impl Mmc3 {
         ensures { λ r. ⌜ r ≡ applied (Move.Data value) self ⌝ }
     {
         let mut next = self;
-        let kept = kept_bits(self.select, value);
+        let kept = data_bits(self.select, value);
         let i = self.select as usize;
         if i < 8 {
             next.regs[i] = kept;

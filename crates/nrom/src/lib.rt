@@ -22,6 +22,6 @@ pub fn write_landing(cart: Cartridge, address: u16) -> Landing
     let mode = cart.mode;
     match mode {
         Mode::House => places::house_chr_ram(cart, address),
-        Mode::Board => read_landing(cart, address),
+        Mode::Board => places::board_chr_ram(cart, Bank8K(0), address),
     }
 }

@@ -1,6 +1,6 @@
 -- The banks that MMC1 and MMC3 show are the same where the registers of their part are. Assumes nothing.
-use Prim.Native.Nat.{ℕ, zero, suc, _/_, _<_}
-use mathlib.Core.Path.{_≡_, refl}
+use Prim.Native.Nat.{ℕ, zero, suc, _+_, _<_}
+use mathlib.Core.Path.{_≡_, refl, ap, _∙_}
 use mathlib.Core.Bool.{Bool, true, _&&_}
 use mathlib.Core.List.{List, [], _∷_}
 use native.Mathlib.Omega.{arith}
@@ -12,6 +12,8 @@ use Rattle.cartridge.specs.declared.Cartridge.{Cartridge}
 use Rattle.mmc1.specs.Read as mmc1
 use Rattle.mmc1.specs.declared.Mmc1.{Mmc1}
 use Rattle.mmc3.specs.Read as mmc3
+use Rattle.mmc3.specs.Read.{Choice}
+use Rattle.mmc3.specs.Read.Choice.{R, R+1}
 use Rattle.mmc3.specs.declared.Mmc3.{Mmc3}
 use Rattle.pages.specs.Parts.{sameChr1, samePrg1, sameR, sameChr3, samePrg3}
 
@@ -34,21 +36,31 @@ module _ (m n : Mmc1) (c : Cartridge) (a : ℕ) where
       rw (eqb-true (r .prgmode) (s .prgmode) f, eqb-true (r .prg) (s .prg) g) refl
 
 -- no choice of a CHR slot names R6 or R7
-small : List ℕ → Bool
-small [] = true
-small (x ∷ l) = ltb x 12 && small l
+abbrev registerOf : Choice → ℕ
+registerOf (R n) = n
+registerOf (R+1 n) = n
 
-in-row : (l : List ℕ) (i : ℕ) → small l ≡ true → getD l i 0 / 2 < 6
+small : List Choice → Bool
+small [] = true
+small (x ∷ l) = ltb (registerOf x) 6 && small l
+
+in-row : (l : List Choice) (i : ℕ) → small l ≡ true → registerOf (getD l i (R 0)) < 6
 unfolding small
 in-row [] i e = omega arith
-in-row (x ∷ l) zero e = let h = ltb-true x 12 (and-left (ltb x 12) (small l) e) in omega arith
-in-row (x ∷ l) (suc i) e = in-row l i (and-right (ltb x 12) (small l) e)
+in-row (x ∷ l) zero e = ltb-true (registerOf x) 6 (and-left (ltb (registerOf x) 6) (small l) e)
+in-row (x ∷ l) (suc i) e = in-row l i (and-right (ltb (registerOf x) 6) (small l) e)
 
-choices-small : (mode slot : ℕ) → mmc3.choice mode slot / 2 < 6
-unfolding mmc3.choice small
+choices-small : (mode slot : ℕ) → registerOf (mmc3.choiceAt mode slot) < 6
+unfolding mmc3.choiceAt small
 choices-small zero slot = in-row (getD mmc3.choices 0 []) slot refl
 choices-small (suc zero) slot = in-row (getD mmc3.choices 1 []) slot refl
 choices-small (suc (suc n)) slot = in-row [] slot refl
+
+-- a choice names the same bank where its register is the same
+chosen-alike : (m n : Mmc3) (x : Choice) → mmc3.register m (registerOf x) ≡ mmc3.register n (registerOf x) → mmc3.chosen m x ≡ mmc3.chosen n x
+unfolding mmc3.chosen
+chosen-alike m n (R k) e = e
+chosen-alike m n (R+1 k) e = ap (λ (t : ℕ). t + 1) e
 
 module _ (m n : Mmc3) where
   same-r : (k : ℕ) → sameR m n k ≡ true → mmc3.register m k ≡ mmc3.register n k
@@ -65,12 +77,12 @@ module _ (m n : Mmc3) where
   up-to-5 a b c d e f (suc (suc (suc (suc (suc (suc k)))))) l = absurd (omega arith)
 
   pub mmc3-chr : sameChr3 m n ≡ true → (slot : ℕ) → mmc3.chrBank m slot ≡ mmc3.chrBank n slot
-  unfolding sameChr3 mmc3.chrBank mmc3.register
+  unfolding sameChr3 mmc3.chrBank
   mmc3-chr e slot =
       let p = split-3 (eqb (m .chrmode) (n .chrmode) && sameR m n 0 && sameR m n 1 && sameR m n 2 && sameR m n 3) (sameR m n 4) (sameR m n 5) e in
       let q = split-5 (eqb (m .chrmode) (n .chrmode)) (sameR m n 0) (sameR m n 1) (sameR m n 2) (sameR m n 3) (p .0) in
-      let r = up-to-5 (q .1) (q .2) (q .3) (q .4) (p .1) (p .2) (mmc3.choice (m .chrmode) slot / 2) (choices-small (m .chrmode) slot) in
-      rw (← eqb-true (m .chrmode) (n .chrmode) (q .0), r) refl
+      let r = up-to-5 (q .1) (q .2) (q .3) (q .4) (p .1) (p .2) (registerOf (mmc3.choiceAt (m .chrmode) slot)) (choices-small (m .chrmode) slot) in
+      chosen-alike m n (mmc3.choiceAt (m .chrmode) slot) r ∙ ap (λ (k : ℕ). mmc3.chosen n (mmc3.choiceAt k slot)) (eqb-true (m .chrmode) (n .chrmode) (q .0))
 
   pub mmc3-prg : samePrg3 m n ≡ true → (c : Cartridge) (a : ℕ) → mmc3.prgBank m c a ≡ mmc3.prgBank n c a
   unfolding samePrg3 mmc3.prgBank mmc3.register

@@ -12,7 +12,7 @@ use Rattle.cartridge.specs.Mappers.{isMapper}
 use Rattle.cartridge.specs.declared.Cartridge.{Cartridge}
 use Rattle.cartridge.specs.declared.MapperType.{MapperType}
 use Rattle.cartridge.specs.declared.MapperType.the-variants.{Nrom, Mmc1, Uxrom, Cnrom, Mmc3}
-use Rattle.places.specs.Windows.{Window, landsIn, inWindows}
+use Rattle.places.specs.Windows.{Window, landsIn, boardChr, boardChrRam, inWindows}
 use Rattle.places.specs.Windows.Window.{Prg16K, Prg8K, Chr8K, Chr4K, Chr1K}
 use Rattle.nrom.specs.Nrom as nrom
 use Rattle.uxrom.specs.Uxrom as uxrom
@@ -56,21 +56,20 @@ module _ (r s : Registers) (c : Cartridge) (a : ℕ) where
       (λ l. ap Chr1K (mmc3-chr (r .mmc3) (s .mmc3) (chr l) (a / 1024)))
       (λ g. ap Prg8K (mmc3-prg (r .mmc3) (s .mmc3) (prg g) c a))
 
--- of a write to a page that has no register: in board mode it is the read's, in house mode it hangs on no register below 8000
+-- of a write to a page that has no register: in board mode on the CHR bank, in house mode it hangs on no register below 8000
 module _ (r s : Registers) (c : Cartridge) (a p : ℕ) (page : a ≡ p * KB1) where
-  board-hangs : (leb 32 p && true) ≡ false → (k : MapperType) → (a < 0x2000 → sameChr k r s ≡ true) → readWindowOn k r c a ≡ readWindowOn k s c a
-  board-hangs f k chr = reads-hang r s c a k chr (λ g. absurd (omega (arith, below p f)))
-
   writes-hang : (k : MapperType) → (a < 0x2000 → sameChr k r s ≡ true) → hasRegisters k p ≡ false → writeWindowOn k r c a ≡ writeWindowOn k s c a
-  unfolding writeWindowOn readWindowOn hasRegisters isMapper nrom.writeWindowIn uxrom.writeWindowIn cnrom.writeWindowIn cnrom.readWindowIn mmc1.writeWindowIn mmc1.ppuWriteIn mmc1.romWriteIn mmc1.readWindow mmc3.writeWindowIn mmc3.ppuWriteIn mmc3.romWriteIn mmc3.readWindow
+  unfolding sameChr writeWindowOn hasRegisters isMapper boardChrRam nrom.writeWindowIn uxrom.writeWindowIn cnrom.writeWindowIn mmc1.writeWindowIn mmc1.ppuWriteIn mmc3.writeWindowIn mmc3.ppuWriteIn mmc3.romWriteIn
   writes-hang Nrom chr f = refl
-  writes-hang Mmc1 chr f = in-mode (λ (m : Mode). mmc1.writeWindowIn m (r .mmc1) c a ≡ mmc1.writeWindowIn m (s .mmc1) c a) (c .mode) refl (board-hangs f Mmc1 chr)
-  writes-hang Uxrom chr f = in-mode (λ (m : Mode). uxrom.writeWindowIn m (r .uxrom) c a ≡ uxrom.writeWindowIn m (s .uxrom) c a) (c .mode) refl (board-hangs f Uxrom chr)
-  writes-hang Cnrom chr f = in-mode (λ (m : Mode). cnrom.writeWindowIn m (r .cnrom) c a ≡ cnrom.writeWindowIn m (s .cnrom) c a) (c .mode) refl (cnrom-hangs r s c a OnBoard chr)
+  writes-hang Mmc1 chr f = in-mode (λ (m : Mode). mmc1.writeWindowIn m (r .mmc1) c a ≡ mmc1.writeWindowIn m (s .mmc1) c a) (c .mode) refl
+      (windows-alike a (λ l. ap (λ (n : ℕ). boardChr c (Chr4K n)) (mmc1-chr (r .mmc1) (s .mmc1) c a (chr l))) (λ g. refl))
+  writes-hang Uxrom chr f = in-mode (λ (m : Mode). uxrom.writeWindowIn m (r .uxrom) c a ≡ uxrom.writeWindowIn m (s .uxrom) c a) (c .mode) refl refl
+  writes-hang Cnrom chr f = in-mode (λ (m : Mode). cnrom.writeWindowIn m (r .cnrom) c a ≡ cnrom.writeWindowIn m (s .cnrom) c a) (c .mode) refl
+      (pick a 0x2000 (λ l. ap (λ (n : ℕ). boardChr c (Chr8K n)) (eqb-true (r .cnrom .bank) (s .cnrom .bank) (chr l))) (λ m. refl))
   writes-hang Mmc3 chr f =
       in-mode (λ (m : Mode). mmc3.writeWindowIn m (r .mmc3) c a ≡ mmc3.writeWindowIn m (s .mmc3) c a) (c .mode)
       (windows-alike a (λ l. refl) (λ g. absurd (omega (arith, below p f))))
-      (board-hangs f Mmc3 chr)
+      (windows-alike a (λ l. ap (λ (n : ℕ). boardChr c (Chr1K n)) (mmc3-chr (r .mmc3) (s .mmc3) (chr l) (a / 1024))) (λ g. refl))
 
 -- the pages of two boards of one cartridge
 module _ (b d : Board) (e : b .cart ≡ d .cart) (p : ℕ) (chr : p < 8 → sameChr (b .cart .mapper) (b .registers) (d .registers) ≡ true) where

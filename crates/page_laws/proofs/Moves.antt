@@ -3,8 +3,8 @@ use Prim.Native.Nat.{ℕ, _≤_, _<_}
 use mathlib.Core.Path.{_≡_, refl, sym, ap, subst⁻¹}
 use mathlib.Core.Bool.{Bool, true, false, not}
 use native.Mathlib.Omega.{arith}
-use lib.Dec.{ltb, eqb}
-use borrow.Author.Tests.{lt-ltb, le-ltb, lt-leb, eq-eqb}
+use lib.Dec.{ltb}
+use borrow.Author.Tests.{lt-ltb, le-ltb, lt-leb}
 use Rattle.rules.proofs.Bools.{either}
 use Rattle.cartridge.specs.Mappers.{isMapper}
 use Rattle.common.specs.declared.Mode.{Mode}
@@ -27,22 +27,11 @@ use Rattle.boards.specs.declared.Board.{Board}
 use Rattle.boards.specs.declared.Clocked.{Clocked}
 use Rattle.boards.specs.declared.Registers.{Registers}
 use Rattle.pages.specs.Pages.{readPage, writePage}
-use Rattle.pages.specs.Parts.{sameChr1, samePrg1, sameChr3, samePrg3, sameChr, samePrg, partsMoved}
+use Rattle.pages.specs.Parts.{sameChr3, samePrg3, sameChr, samePrg, partsMoved}
 use Rattle.pages.specs.declared.Parts.{Parts}
+use Rattle.pages.proofs.SameRegisters.{parts-self}
 use Rattle.page_laws.specs.Moves.{movedParts, unmoved}
 use Rattle.page_laws.proofs.Hangs.{reads-alike, writes-alike}
-
--- registers that are the same have moved no part
-equals : (n : ℕ) → eqb n n ≡ true
-equals n = eq-eqb n n refl
-
-parts-self : (k : MapperType) (r : Registers) → partsMoved k r r ≡ unmoved
-unfolding partsMoved sameChr samePrg sameChr1 samePrg1 sameChr3 samePrg3
-parts-self Nrom r = refl
-parts-self Mmc1 r = simp equals
-parts-self Uxrom r = simp equals
-parts-self Cnrom r = simp equals
-parts-self Mmc3 r = simp equals
 
 -- a part that has not moved is the same
 part-same : (t : Bool) → not t ≡ false → t ≡ true

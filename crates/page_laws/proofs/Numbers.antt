@@ -11,13 +11,13 @@ use Rattle.rules.proofs.Bools.{and-left, and-right, split-3}
 use Rattle.common.specs.Common.{KB8}
 use Rattle.common.specs.Answers.{refusalNumber, isHeaders}
 use Rattle.common.specs.declared.Refusal.{Refusal}
-use Rattle.common.specs.declared.Refusal.the-variants.{HeaderTooShort, HeaderNotInes, ImageNotInes, MapperNotTaken, TrainerOrFourScreen, PrgCountNotTaken, ImageTooShort, CountNoPowerOfTwo, RamNot8K, StateOutOfRange, BankPastData, NoChrRam, NoSuchPlace, IrqPending, TraceMalformed}
-use Rattle.cartridge.specs.Load.{badPrg, oddCounts, needed, couldLoad, ramsFit}
+use Rattle.cartridge.specs.Load.{badPrg, noPowers, needed, couldLoad, ramsFit}
 use Rattle.cartridge.specs.Mappers.{mapperNumber}
 use Rattle.boards.specs.Registers.{fits}
 use Rattle.boards.specs.Range.{mirroringFits, inRange, isLoaded}
 use Rattle.boards.specs.declared.Board.{Board}
 use Rattle.pages.specs.Pages.{refusedPage}
+use Rattle.pages.proofs.Refusals.{refusals-few}
 use Rattle.page_laws.specs.Through.{kind, offset}
 
 -- a number of this kind and offset
@@ -36,7 +36,7 @@ unfolding inRange couldLoad
 counts b h =
     let c = b .cart in
     let p = split-3 (couldLoad c) (fits (c .mapper) (b .registers)) (mirroringFits b) h in
-    let q = split-3 (not (badPrg (mapperNumber (c .mapper)) (c .prg)) && not (oddCounts (c .mode) (c .prg) (c .chr))) (ltb (c .prg) 256 && ltb (c .chr) 256 && leb (needed (c .prg) (c .chr)) (c .length)) (isHeaders (c .mirroring)) (p .0) in
+    let q = split-3 (not (badPrg (mapperNumber (c .mapper)) (c .prg)) && not (noPowers (c .mode) (c .prg) (c .chr))) (ltb (c .prg) 256 && ltb (c .chr) 256 && leb (needed (c .prg) (c .chr)) (c .length)) (isHeaders (c .mirroring)) (p .0) in
     let n = split-3 (ltb (c .prg) 256) (ltb (c .chr) 256) (leb (needed (c .prg) (c .chr)) (c .length)) (q .1) in
     (ltb-true (c .prg) 256 (n .0), ltb-true (c .chr) 256 (n .1))
 
@@ -61,23 +61,6 @@ served b image prg chr loaded rams =
       prg-length = eqb-true (length prg) 8192 (and-left (eqb (length prg) 8192) (eqb (length chr) 8192) rams);
       chr-length = eqb-true (length chr) 8192 (and-right (eqb (length prg) 8192) (eqb (length chr) 8192) rams);
     }
-
-pub refusals-few : (why : Refusal) → refusalNumber why < 16
-refusals-few HeaderTooShort = omega arith
-refusals-few HeaderNotInes = omega arith
-refusals-few ImageNotInes = omega arith
-refusals-few MapperNotTaken = omega arith
-refusals-few TrainerOrFourScreen = omega arith
-refusals-few PrgCountNotTaken = omega arith
-refusals-few ImageTooShort = omega arith
-refusals-few CountNoPowerOfTwo = omega arith
-refusals-few RamNot8K = omega arith
-refusals-few StateOutOfRange = omega arith
-refusals-few BankPastData = omega arith
-refusals-few NoChrRam = omega arith
-refusals-few NoSuchPlace = omega arith
-refusals-few IrqPending = omega arith
-refusals-few TraceMalformed = omega arith
 
 pub refused-number : (why : Refusal) → Is (refusedPage why) 4 (refusalNumber why)
 unfolding refusedPage

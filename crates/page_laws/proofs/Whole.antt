@@ -17,8 +17,8 @@ use Rattle.cartridge.specs.declared.Cartridge.{Cartridge}
 use Rattle.cartridge.specs.declared.MapperType.{MapperType}
 use Rattle.cartridge.specs.declared.MapperType.the-variants.{Nrom, Mmc1, Uxrom, Cnrom, Mmc3}
 use Rattle.places.specs.Places.{prgAt, chrAt, inPrg, inChr}
-use Rattle.places.specs.Windows.{Window, landsIn, fixedBlock, fixedPrg, houseChrRam, inWindows}
-use Rattle.places.specs.Windows.Window.{Prg16K, Prg8K, Chr8K, Chr4K, Chr1K, PrgRam, ChrRam, Nothing, Refused}
+use Rattle.places.specs.Windows.{Window, landsIn, fixedBlock, fixedPrg, houseChrRam, boardChrRam, inWindows}
+use Rattle.places.specs.Windows.Window.{Prg16K, Prg8K, Chr8K, Chr4K, Chr1K, PrgRam, ChrRam, Empty, Refused}
 use Rattle.places.specs.declared.Place.the-variants as place
 use Rattle.places.specs.declared.Landing.the-variants.{At}
 use Rattle.nrom.specs.Nrom as nrom
@@ -82,7 +82,7 @@ module _ (p o : ℕ) (h : o < KB1) where
     lands-on (Chr1K n) = ap (inChr c KB1 n) (omega arith) ∙ chr-on c KB1 n (p * KB1 % KB1) o
     lands-on PrgRam = ap (λ (k : ℕ). At (place.PrgRam k)) (omega arith)
     lands-on ChrRam = ap (λ (k : ℕ). At (place.ChrRam k)) (omega arith)
-    lands-on Nothing = refl
+    lands-on Empty = refl
     lands-on (Refused why) = refl
 
     fixed-stays : Stays (fixedPrg c)
@@ -105,14 +105,14 @@ module _ (p o : ℕ) (h : o < KB1) where
 
     -- and for writes, where no register is written: house MMC3 shows two windows in a page of E000-FFFF, since only an even address acknowledges
     write-window : (k : MapperType) (r : Registers) → hasRegisters k p ≡ false → Stays (writeWindowOn k r c)
-    unfolding writeWindowOn readWindowOn hasRegisters isMapper nrom.writeWindowIn uxrom.writeWindowIn houseChrRam cnrom.writeWindowIn cnrom.readWindowIn cnrom.houseWriteWindow mmc1.writeWindowIn mmc1.ppuWriteIn mmc1.romWriteIn mmc1.readWindow mmc3.writeWindowIn mmc3.ppuWriteIn mmc3.romWriteIn mmc3.readWindow inWindows
-    write-window Nrom r f = in-mode (λ (m : Mode). Stays (nrom.writeWindowIn m c)) (c .mode) (rw (side 8) refl) (read-window Nrom r)
-    write-window Mmc1 r f = in-mode (λ (m : Mode). Stays (mmc1.writeWindowIn m (r .mmc1) c)) (c .mode) (rw (side 8, side 24, side 32) refl) (read-window Mmc1 r)
-    write-window Uxrom r f = in-mode (λ (m : Mode). Stays (uxrom.writeWindowIn m (r .uxrom) c)) (c .mode) (rw (side 8) refl) (read-window Uxrom r)
-    write-window Cnrom r f = in-mode (λ (m : Mode). Stays (cnrom.writeWindowIn m (r .cnrom) c)) (c .mode) (rw (side 8, side 32) refl) (cnrom-stays OnBoard (r .cnrom))
+    unfolding writeWindowOn hasRegisters isMapper nrom.writeWindowIn uxrom.writeWindowIn houseChrRam boardChrRam cnrom.writeWindowIn cnrom.houseWriteWindow mmc1.writeWindowIn mmc1.ppuWriteIn mmc1.chrBank mmc3.writeWindowIn mmc3.ppuWriteIn mmc3.romWriteIn inWindows
+    write-window Nrom r f = in-mode (λ (m : Mode). Stays (nrom.writeWindowIn m c)) (c .mode) (rw (side 8) refl) (rw (side 8) refl)
+    write-window Mmc1 r f = in-mode (λ (m : Mode). Stays (mmc1.writeWindowIn m (r .mmc1) c)) (c .mode) (rw (side 8, side 24, side 32) refl) (rw (side 4, side 8, side 24, side 32) refl)
+    write-window Uxrom r f = in-mode (λ (m : Mode). Stays (uxrom.writeWindowIn m (r .uxrom) c)) (c .mode) (rw (side 8) refl) (rw (side 8) refl)
+    write-window Cnrom r f = in-mode (λ (m : Mode). Stays (cnrom.writeWindowIn m (r .cnrom) c)) (c .mode) (rw (side 8, side 32) refl) (rw (side 8) refl)
     write-window Mmc3 r f =
         let l : p * KB1 < 0x8000 = omega (arith, below p f) in
-        in-mode (λ (m : Mode). Stays (mmc3.writeWindowIn m (r .mmc3) c)) (c .mode) (rw (side 8, side 24, side 32, lt-ltb (p * KB1) 0x8000 l) refl) (read-window Mmc3 r)
+        in-mode (λ (m : Mode). Stays (mmc3.writeWindowIn m (r .mmc3) c)) (c .mode) (rw (side 8, side 24, side 32, lt-ltb (p * KB1) 0x8000 l) refl) (rw (side 8, side 24, side 32, slot) refl)
 
 -- every page of every board, in each mode
 module _ (b : Board) where

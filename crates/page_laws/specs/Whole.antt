@@ -13,7 +13,7 @@ movedOn (PrgRam i) o = PrgRam (i + o)
 movedOn (ChrRam i) o = ChrRam (i + o)
 movedOn Nowhere o = Nowhere
 
--- the same of a landing; a refusal stays one
+-- the landing that many bytes on; a refusal stays one
 unfoldable pub shifted : Landing → ℕ → Landing
 shifted (At p) o = At (movedOn p o)
 shifted (Refused why) o = Refused why

@@ -1,2 +1,4 @@
 pub mod Listed
 pub mod Unique
+pub mod SameRegisters
+pub mod Refusals

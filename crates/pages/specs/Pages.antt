@@ -6,9 +6,8 @@ use mathlib.Core.List.{List, [], _∷_}
 use lib.Dec.{leb}
 use lib.ListN.{length}
 use Rattle.common.specs.Common.{KB1, KB8}
-use Rattle.common.specs.Answers.{refusalNumber}
+use Rattle.common.specs.Answers.{refusalNumber, no}
 use Rattle.common.specs.declared.Refusal.{Refusal}
-use Rattle.common.specs.declared.Refusal.the-variants.{StateOutOfRange}
 use Rattle.cartridge.specs.Load.{prgTotal}
 use Rattle.cartridge.specs.Mappers.{isMapper}
 use Rattle.cartridge.specs.declared.Cartridge.{Cartridge}
@@ -67,7 +66,7 @@ hasRegisters k p = leb 32 p && not (isMapper k Nrom)
 unfoldable pub readPage : Board → ℕ → ℕ
 readPage b p = readFrom (b .cart) (readLanding b (p * KB1))
 
--- where a write to it goes
+-- where a write to a page goes
 unfoldable pub writePage : Board → ℕ → ℕ
 writePage b p = cond (hasRegisters (b .cart .mapper) p) callPage (writtenTo (writeLanding b (p * KB1)))
 
@@ -80,9 +79,9 @@ numbers f p (suc n) = f p ∷ numbers f (suc p) n
 unfoldable pub isTold : Bool → ℕ → ℕ → ℕ → Bool
 isTold state first n m = state && leb (first + n) 64 && leb (first + m) 64
 
--- else 10
+-- the answer of the pages: told, or 10
 unfoldable pub told : Bool → PagesAnswer
-told t = cond t Told (Refused StateOutOfRange)
+told t = cond t Told (Refused (no 10))
 
 -- what is owed where the state has been judged: the answer, and the numbers of both, as many as there is room for
 pub record PagesIf (state : Bool) (b : Board) (first : ℕ) (reads writes : List ℕ) (r : PagesAnswer) (reads′ writes′ : List ℕ) : Type 0 where
@@ -90,6 +89,6 @@ pub record PagesIf (state : Bool) (b : Board) (first : ℕ) (reads writes : List
   pub read-pages : reads′ ≡ cond (isTold state first (length reads) (length writes)) (numbers (readPage b) first (length reads)) reads
   pub write-pages : writes′ ≡ cond (isTold state first (length reads) (length writes)) (numbers (writePage b) first (length writes)) writes
 
--- what is owed for a board
+-- what the pages of a board owe
 abbrev pub PagesOwes : Board → ℕ → List ℕ → List ℕ → PagesAnswer → List ℕ → List ℕ → Type 0
 PagesOwes b first reads writes r reads′ writes′ = PagesIf (inRange b) b first reads writes r reads′ writes′

@@ -10,27 +10,27 @@ use Rattle.mmc3.specs.declared.Mmc3 as mmc3-type
 use Rattle.boards.specs.declared.Registers.{Registers}
 use Rattle.pages.specs.declared.Parts.{Parts}
 
--- MMC1's CHR mode and both CHR banks
+-- two MMC1 boards have the same CHR mode and CHR banks
 unfoldable pub sameChr1 : Regs → Regs → Bool
 sameChr1 r s = eqb (r .chrmode) (s .chrmode) && eqb (r .chr0) (s .chr0) && eqb (r .chr1) (s .chr1)
 
--- its PRG mode and PRG bank
+-- two MMC1 boards have the same PRG mode and PRG bank
 unfoldable pub samePrg1 : Regs → Regs → Bool
 samePrg1 r s = eqb (r .prgmode) (s .prgmode) && eqb (r .prg) (s .prg)
 
--- whether MMC3's Rn is the same
+-- two MMC3 boards have the same Rn
 abbrev pub sameR : mmc3-type.Mmc3 → mmc3-type.Mmc3 → ℕ → Bool
 sameR m n k = eqb (register m k) (register n k)
 
--- MMC3's CHR mode, and R0 to R5
+-- two MMC3 boards have the same CHR mode, and R0 to R5
 unfoldable pub sameChr3 : mmc3-type.Mmc3 → mmc3-type.Mmc3 → Bool
 sameChr3 m n = eqb (m .chrmode) (n .chrmode) && sameR m n 0 && sameR m n 1 && sameR m n 2 && sameR m n 3 && sameR m n 4 && sameR m n 5
 
--- its PRG mode, R6 and R7
+-- two MMC3 boards have the same PRG mode, R6 and R7
 unfoldable pub samePrg3 : mmc3-type.Mmc3 → mmc3-type.Mmc3 → Bool
 samePrg3 m n = eqb (m .prgmode) (n .prgmode) && sameR m n 6 && sameR m n 7
 
--- all that 0000-1FFF hangs on beside the cartridge, on each board
+-- on each board: all that 0000-1FFF hangs on beside the cartridge is the same
 unfoldable pub sameChr : MapperType → Registers → Registers → Bool
 sameChr Nrom r s = true
 sameChr Mmc1 r s = sameChr1 (r .mmc1 .regs) (s .mmc1 .regs)
@@ -38,7 +38,7 @@ sameChr Uxrom r s = true
 sameChr Cnrom r s = eqb (r .cnrom .bank) (s .cnrom .bank)
 sameChr Mmc3 r s = sameChr3 (r .mmc3) (s .mmc3)
 
--- all that 8000-FFFF hangs on
+-- on each board: all that 8000-FFFF hangs on beside the cartridge is the same
 unfoldable pub samePrg : MapperType → Registers → Registers → Bool
 samePrg Nrom r s = true
 samePrg Mmc1 r s = samePrg1 (r .mmc1 .regs) (s .mmc1 .regs)

@@ -1,4 +1,5 @@
--- A byte read from a bank, which is a part of the data, is the byte at the place of that bank: the part starts where the place counts from.
+-- A byte read from a bank, which is a part of the data, is the byte at the place of that bank: the part starts where the place counts from. A window that is
+-- there only with CHR RAM lands by the same test.
 -- Assumes nothing.
 use Prim.Native.Nat.{ℕ, _<_}
 use mathlib.Core.Path.{_≡_, refl}
@@ -11,7 +12,21 @@ use Rattle.banks.specs.declared.Start.{Start}
 use Rattle.banks.specs.declared.Start.the-variants.{At, PastEnd}
 use Rattle.cartridge.specs.Load.{prgTotal, chrTotal, hasChrRam, prgRom, chrRom, chrData}
 use Rattle.cartridge.specs.declared.Cartridge.{Cartridge}
+use Rattle.places.specs.Windows.{Window, landsIn, boardChr}
+use Rattle.places.specs.Windows.Window.{Empty}
+use Rattle.places.specs.Steps.{ifChrRam}
+use Rattle.places.specs.declared.Place.the-variants.{Nowhere}
+use Rattle.places.specs.declared.Landing.the-variants.{At as On}
 use Rattle.places.specs.Places.{prgAt, chrAt, inPrg, inChr, byteAt, byteOf}
+
+-- a window of CHR that board mode writes lands where it is read, if there is CHR RAM
+pub lands-in-ram : (c : Cartridge) (w : Window) (a : ℕ) → ifChrRam c (landsIn c w a) ≡ landsIn c (boardChr c w) a
+unfolding ifChrRam boardChr landsIn
+lands-in-ram c w a = go (hasChrRam c)
+  where
+    go : (ram : Bool) → cond ram (landsIn c w a) (On Nowhere) ≡ landsIn c (cond ram w Empty) a
+    go true = refl
+    go false = refl
 
 module _ (c : Cartridge) (image prg chr : List ℕ) (size n i : ℕ) (h : i < size) where
   pub prg-byte : byte (bankOf (prgRom image) (bankStart (c .mode) n size (prgTotal c)) size) i ≡ byteAt c (inPrg c size n i) image prg chr

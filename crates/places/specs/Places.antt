@@ -4,7 +4,7 @@ use mathlib.Core.Path.{_≡_}
 use mathlib.Core.Bool.{Bool, cond}
 use mathlib.Core.List.{List}
 use lib.ListN.{set}
-use Rattle.common.specs.declared.Refusal.the-variants.{BankPastData}
+use Rattle.common.specs.Answers.{no}
 use Rattle.memory.specs.Memory.{byte}
 use Rattle.banks.specs.Banks.{bankStart}
 use Rattle.banks.specs.declared.Start.{Start}
@@ -18,21 +18,21 @@ use Rattle.places.specs.declared.Landing.the-variants.{At, Refused}
 use Rattle.places.specs.declared.ReadAnswer.{ReadAnswer}
 use Rattle.places.specs.declared.ReadAnswer.the-variants.{Byte, Refused as NoByte}
 
--- refusal 11 where the bank is past the data; else the byte `at` of the bank
+-- refusal 11 where the bank is past the data; else the byte `at` of the PRG bank
 unfoldable pub prgAt : Start → ℕ → Landing
 prgAt (StartsAt s) at = At (Prg (s + at))
-prgAt PastEnd at = Refused BankPastData
+prgAt PastEnd at = Refused (no 11)
 
--- the same for CHR, in RAM or in the image
+-- refusal 11 where the bank is past the data; else the byte `at` of the CHR bank, in RAM or in the image
 unfoldable pub chrAt : Bool → Start → ℕ → Landing
 chrAt ram (StartsAt s) at = cond ram (At (ChrRam (s + at))) (At (Chr (s + at)))
-chrAt ram PastEnd at = Refused BankPastData
+chrAt ram PastEnd at = Refused (no 11)
 
 -- the byte `at` of PRG bank n, counted in banks of a size
 unfoldable pub inPrg : Cartridge → ℕ → ℕ → ℕ → Landing
 inPrg c size n at = prgAt (bankStart (c .mode) n size (prgTotal c)) at
 
--- the same of CHR; "CHR RAM is read .. through the banks"
+-- the byte `at` of CHR bank n, counted in banks of a size; "CHR RAM is read .. through the banks"
 unfoldable pub inChr : Cartridge → ℕ → ℕ → ℕ → Landing
 inChr c size n at = chrAt (hasChrRam c) (bankStart (c .mode) n size (chrTotal c)) at
 
@@ -63,7 +63,7 @@ storedPrg (At (ChrRam i)) v prg = prg
 storedPrg (At Nowhere) v prg = prg
 storedPrg (Refused why) v prg = prg
 
--- CHR RAM after it; "CHR ROM ignores writes"
+-- CHR RAM after a byte is stored where an address lands
 unfoldable pub storedChr : Landing → ℕ → List ℕ → List ℕ
 storedChr (At (Prg i)) v chr = chr
 storedChr (At (Chr i)) v chr = chr

@@ -1,6 +1,7 @@
 // Where an address lands in what a board shows there, and the byte that is read or stored.
 ghost use mathlib.Core.Path.{_≡_};
-ghost use Rattle.places.specs.Windows.{landsIn, fixedBlock, fixedPrg, houseChr, houseChrRam};
+ghost use Rattle.places.specs.Windows.{landsIn, fixedBlock, fixedPrg, houseChr, houseChrRam, boardChr, boardChrRam};
+ghost use Rattle.places.specs.Steps.{ifChrRam};
 ghost use Rattle.places.specs.Windows.Window.{Prg16K, Prg8K, Chr8K, Chr4K, Chr1K, PrgRam};
 ghost use Rattle.places.specs.Places.{prgAt, chrAt, byteOf, byteAt, answerAt, StoreOwes};
 use banks::Bank1K;
@@ -148,6 +149,33 @@ pub fn house_chr_ram(cart: Cartridge, address: u16) -> Landing
 {
     match address {
         0x0000..=0x1fff => house_chr(cart, address),
+        _ => Landing::At(Place::Nowhere),
+    }
+}
+
+// Board mode: a byte for CHR goes where it would be read, if that is RAM; CHR ROM ignores it.
+pub fn if_chr_ram(cart: Cartridge, read: Landing) -> Landing
+    ensures { λ r. ⌜ r ≡ ifChrRam cart read ⌝ }
+{
+    if cart.chr == 0 {
+        read
+    } else {
+        Landing::At(Place::Nowhere)
+    }
+}
+
+fn board_chr_8k(cart: Cartridge, bank: Bank8K, address: u16) -> Landing
+    ensures { λ r. ⌜ r ≡ landsIn cart (boardChr cart (Chr8K (bank .0))) address ⌝ }
+{
+    if_chr_ram(cart, chr_8k(cart, bank, address))
+}
+
+// NROM, UxROM and CNROM in board mode: no other write stores a byte.
+pub fn board_chr_ram(cart: Cartridge, bank: Bank8K, address: u16) -> Landing
+    ensures { λ r. ⌜ r ≡ landsIn cart (boardChrRam cart (bank .0) address) address ⌝ }
+{
+    match address {
+        0x0000..=0x1fff => board_chr_8k(cart, bank, address),
         _ => Landing::At(Place::Nowhere),
     }
 }

@@ -23,7 +23,7 @@ Fits [] (d ∷ ds) = ⊥
 Fits (s ∷ ss) [] = ⊥
 Fits (s ∷ ss) (d ∷ ds) = (d < s) × Fits ss ds
 
--- the same as a test, after another one
+-- a digit for each size, below it, as a test after another one
 abbrev pub belowToo : Bool → List ℕ → List ℕ → Bool
 belowToo b [] [] = b
 belowToo b [] (d ∷ ds) = false

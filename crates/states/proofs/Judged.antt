@@ -19,7 +19,7 @@ use Rattle.common.specs.Answers as mirrorings
 use Rattle.common.specs.declared.Mode.the-variants.{House, Board as OnBoard}
 use Rattle.cartridge.specs.Load.{badPrg, needed, couldLoad}
 use Rattle.cartridge.specs.Mappers.{isMapper, mapperNumber}
-use Rattle.cartridge.specs.Steps.{oddBits}
+use Rattle.cartridge.specs.Steps.{notOneBit}
 use Rattle.cartridge.specs.declared.MapperType.{MapperType}
 use Rattle.cartridge.specs.declared.MapperType.the-variants.{Nrom, Mmc1, Uxrom, Cnrom, Mmc3}
 use Rattle.cartridge.proofs.OneBit.{by-bits}
@@ -32,7 +32,11 @@ use Rattle.mmc1.specs.declared.Mmc1 as mmc1-type
 use Rattle.mmc3.specs.Range as mmc3
 use Rattle.mmc3.specs.Read.{register}
 use Rattle.mmc3.specs.declared.Mmc3 as mmc3-type
-use Rattle.boards.specs.Range.{turnedFit, screensFit, screensKept, mirroringFits, inRange}
+use Rattle.common.specs.declared.Mirroring.{Mirroring}
+use Rattle.cartridge.specs.declared.Cartridge.{Cartridge}
+use Rattle.boards.specs.Range.{screensFit, mirroringFits, inRange}
+use Rattle.boards.specs.Steps.{turnedFit, screensBy}
+use Rattle.boards.proofs.Screens.{by-two-tests}
 use Rattle.boards.specs.Registers.{partFits, fits}
 use Rattle.states.specs.Words.{mirroringDigit, mirroringOf, cartSizes, cartWord, mapperOf, cartOf, screensOf, banksSizes, banksDigits, banksWord, uxromOf, cnromOf, mmc1Of, regsWord, irqSizes, irqWord, mmc3Of, wordsOf, boardIn, same}
 use Rattle.states.specs.Kept.{isKept}
@@ -66,10 +70,10 @@ third f u c w = simp (order, and-true)
 
 -- by the mode
 in-mode : (z : Bool) (k : MapperType) (s h : Bool) (prg chr : ℕ)
-    → cond z s (not (oddBits OnBoard prg chr) && turnedFit k s h) ≡ (screensFit (cond z House OnBoard) k s h && not (oddBits (cond z House OnBoard) prg chr))
-unfolding screensFit oddBits
+    → cond z s (not (notOneBit OnBoard prg chr) && turnedFit k s h) ≡ (screensBy (cond z House OnBoard) k s h && not (notOneBit (cond z House OnBoard) prg chr))
+unfolding screensBy notOneBit
 in-mode true k s h prg chr = sym (and-true s)
-in-mode false k s h prg chr = and-comm (not (oddBits OnBoard prg chr)) (turnedFit k s h)
+in-mode false k s h prg chr = and-comm (not (notOneBit OnBoard prg chr)) (turnedFit k s h)
 
 -- each digit is the one of its enum
 by-bit : (P : ℕ → Type 0) → P 0 → P 1 → (d : ℕ) → d < 2 → P d
@@ -106,6 +110,10 @@ one-screen a b p q =
     by-digit (λ (x : ℕ). OneScreen x b) (by-digit (OneScreen 0) refl refl refl refl b q) (by-digit (OneScreen 1) refl refl refl refl b q)
     (by-digit (OneScreen 2) refl refl refl refl b q) (by-digit (OneScreen 3) refl refl refl refl b q) a p
 
+-- the current mirroring in its range
+abbrev screensIn : Cartridge → Mirroring → Bool
+screensIn c now = screensFit (c .mode) (c .mapper) (c .mirroring) now
+
 module _ (c length : ℕ) where
   abbrev d : List ℕ
   d = flatDigits cartSizes c
@@ -138,23 +146,24 @@ module _ (c length : ℕ) where
       let e : d ≡ again = ap (flatDigits cartSizes) (sym w) ∙ flat-there cartSizes again f in
       simp (eq-eqb (digit d 0) 1 (ap (λ (t : List ℕ). digit t 0) e), eq-eqb (digit d 1) (mapperNumber k) (ap (λ (t : List ℕ). digit t 1) e), eq-eqb (digit d 6) 1 (ap (λ (t : List ℕ). digit t 6) e), lt-ltb c 0x100000000000 (omega (arith, flat-small cartSizes again f))))
 
-  mode-of : modeIsKept k c ≡ (screensKept (cartOf d length) (screensOf d) && not (oddBits (modeOf (digit d 2)) (digit d 7) (digit d 8)))
+  mode-of : modeIsKept k c ≡ (screensIn (cartOf d length) (screensOf d) && not (notOneBit (modeOf (digit d 2)) (digit d 7) (digit d 8)))
   unfolding modeIsKept modeOf
   mode-of =
       in-mode (eqb (digit d 2) 0) k (eqb (digit d 5) (digit d 4)) (ltb (digit d 5) 2) (digit d 7) (digit d 8)
-      ∙ (λ i. screensFit (modeOf (digit d 2)) k (one-screen (digit d 5) (digit d 4) (omega arith) (omega arith) i) (is-headers (digit d 5) (omega arith) i) && not (oddBits (modeOf (digit d 2)) (digit d 7) (digit d 8)))
+      ∙ (λ i. screensBy (modeOf (digit d 2)) k (one-screen (digit d 5) (digit d 4) (omega arith) (omega arith) i) (is-headers (digit d 5) (omega arith) i) && not (notOneBit (modeOf (digit d 2)) (digit d 7) (digit d 8)))
+      ∙ ap (λ (t : Bool). t && not (notOneBit (modeOf (digit d 2)) (digit d 7) (digit d 8))) (by-two-tests (modeOf (digit d 2)) k (mirroringOf (digit d 4)) (mirroringOf (digit d 5)))
 
   cart-of : (cartIsKept k c length && modeIsKept k c)
-      ≡ (couldLoad (cartOf d length) && screensKept (cartOf d length) (screensOf d) && eqb (cartWord (cartOf d length) (screensOf d)) c)
+      ≡ (couldLoad (cartOf d length) && screensIn (cartOf d length) (screensOf d) && eqb (cartWord (cartOf d length) (screensOf d)) c)
   unfolding cartIsKept
   cart-of =
       let p = not (badPrg (mapperNumber k) (digit d 7)) in
       let s = ltb (digit d 7) 256 in
       let n = leb (needed (digit d 7) (digit d 8)) length in
-      let x = screensKept (cartOf d length) (screensOf d) in
+      let x = screensIn (cartOf d length) (screensOf d) in
       let w = eqb (cartWord (cartOf d length) (screensOf d)) c in
       (λ i. (whole i && is-headers (digit d 4) (omega arith) i && p && s && n) && mode-of i)
-      ∙ join (ltb (digit d 8) 256) w (isHeaders (mirroringOf (digit d 4))) p s n x (not (oddBits (modeOf (digit d 2)) (digit d 7) (digit d 8)))
+      ∙ join (ltb (digit d 8) 256) w (isHeaders (mirroringOf (digit d 4))) p s n x (not (notOneBit (modeOf (digit d 2)) (digit d 7) (digit d 8)))
       ∙ ap (λ (y : Bool). y && x && w) (by-bits (cartOf d length))
 
 -- what a word of banks holds of each board
@@ -222,6 +231,6 @@ in-parts w =
     let m = mmc3Of (flatDigits bytes (w .regs)) (flatDigits irqSizes (w .irq)) in
     let k = mapperOf d in
     (λ j. cart-of (w .cart) (w .length) j && banks-of (w .banks) k j && mmc3-of (w .regs) (w .irq) (isMapper k Mmc3) j)
-    ∙ all (couldLoad (cartOf d (w .length))) (screensKept (cartOf d (w .length)) (screensOf d)) (eqb (cartWord (cartOf d (w .length)) (screensOf d)) (w .cart))
+    ∙ all (couldLoad (cartOf d (w .length))) (screensIn (cartOf d (w .length)) (screensOf d)) (eqb (cartWord (cartOf d (w .length)) (screensOf d)) (w .cart))
     (fitsBanks k e) (eqb (wordOf e) (w .banks)) (partFits k Mmc3 (mmc3.fits m) (mmc3.isStart m)) (eqb (regsWord (m .regs)) (w .regs)) (eqb (irqWord m) (w .irq))
     (eqb (w .length) (w .length)) (eq-eqb (w .length) (w .length) refl)

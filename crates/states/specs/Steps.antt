@@ -8,7 +8,7 @@ use Rattle.common.specs.declared.Mirroring.{Mirroring}
 use Rattle.common.specs.declared.Mode.the-variants.{Board as OnBoard}
 use Rattle.cartridge.specs.Load.{badPrg, needed}
 use Rattle.cartridge.specs.Mappers.{isMapper, mapperNumber}
-use Rattle.cartridge.specs.Steps.{oddBits}
+use Rattle.cartridge.specs.Steps.{notOneBit}
 use Rattle.cartridge.specs.declared.MapperType.{MapperType}
 use Rattle.cartridge.specs.declared.MapperType.the-variants.{Nrom, Mmc1, Uxrom, Cnrom, Mmc3}
 use Rattle.uxrom.specs.Uxrom as uxrom
@@ -16,7 +16,7 @@ use Rattle.cnrom.specs.Cnrom as cnrom
 use Rattle.mmc1.specs.Range as mmc1
 use Rattle.mmc3.specs.Range as mmc3
 use Rattle.mmc3.specs.declared.Mmc3 as mmc3-type
-use Rattle.boards.specs.Range.{turnedFit}
+use Rattle.boards.specs.Steps.{turnedFit}
 use Rattle.boards.specs.declared.Board.{Board}
 use Rattle.states.specs.Words.{mirroringDigit, cartSizes, mapperOf, banksSizes, banksWord, uxromOf, cnromOf, mmc1Of, regsWord, irqSizes, irqWord, mmc3Of}
 use Rattle.states.specs.declared.Words.{Words}
@@ -39,7 +39,7 @@ unfoldable pub modeIsKept : MapperType → ℕ → Bool
 modeIsKept k c =
     let d = flatDigits cartSizes c in
     cond (eqb (digit d 2) 0) (eqb (digit d 5) (digit d 4))
-    (not (oddBits OnBoard (digit d 7) (digit d 8)) && turnedFit k (eqb (digit d 5) (digit d 4)) (ltb (digit d 5) 2))
+    (not (notOneBit OnBoard (digit d 7) (digit d 8)) && turnedFit k (eqb (digit d 5) (digit d 4)) (ltb (digit d 5) 2))
 
 -- MMC1's digits in their ranges, and packed again the same word: no digit of another board
 unfoldable pub mmc1IsKept : ℕ → Bool

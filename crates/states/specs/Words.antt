@@ -41,7 +41,7 @@ cartDigits c m =
     1 ∷ mapperNumber (c .mapper) ∷ modeNumber (c .mode) ∷ boolByte (c .nes2) ∷ mirroringDigit (c .mirroring) ∷ mirroringDigit m ∷ 1 ∷ c .prg ∷ c .chr
     ∷ []
 
--- of a cartridge and the current mirroring
+-- word 0 of a cartridge and the current mirroring
 abbrev pub cartWord : Cartridge → Mirroring → ℕ
 cartWord c m = flatWord cartSizes (cartDigits c m)
 
@@ -49,7 +49,7 @@ cartWord c m = flatWord cartSizes (cartDigits c m)
 abbrev pub mapperOf : List ℕ → MapperType
 mapperOf d = mapperType (digit d 1)
 
--- of the cartridge; word 1 is the image's length
+-- what these digits say of the cartridge; word 1 is the image's length
 abbrev pub cartOf : List ℕ → ℕ → Cartridge
 cartOf d length =
     record {
@@ -62,7 +62,7 @@ cartOf d length =
       length = length;
     }
 
--- and of the current mirroring
+-- what these digits say of the current mirroring
 abbrev pub screensOf : List ℕ → Mirroring
 screensOf d = mirroringOf (digit d 5)
 
@@ -77,7 +77,7 @@ banksDigits u c m =
     ∷ m .regs .prg
     ∷ []
 
--- of the boards' banks
+-- word 2 of the boards' banks
 abbrev pub banksWord : Uxrom → Cnrom → Mmc1 → ℕ
 banksWord u c m = flatWord banksSizes (banksDigits u c m)
 
@@ -101,7 +101,7 @@ mmc1Of d =
 abbrev pub regsDigits : List ℕ → List ℕ
 regsDigits r = digit r 0 ∷ digit r 1 ∷ digit r 2 ∷ digit r 3 ∷ digit r 4 ∷ digit r 5 ∷ digit r 6 ∷ digit r 7 ∷ []
 
--- of the eight registers
+-- word 3 of the eight registers
 abbrev pub regsWord : List ℕ → ℕ
 regsWord r = flatWord bytes (regsDigits r)
 
@@ -114,7 +114,7 @@ abbrev pub irqDigits : Mmc3 → List ℕ
 irqDigits m =
     m .irq .latch ∷ m .irq .counter ∷ m .select ∷ m .prgmode ∷ m .chrmode ∷ boolByte (m .irq .enabled) ∷ boolByte (m .irq .reload) ∷ 0 ∷ 1 ∷ 0 ∷ []
 
--- of the rest of MMC3
+-- word 4 of the rest of MMC3
 abbrev pub irqWord : Mmc3 → ℕ
 irqWord m = flatWord irqSizes (irqDigits m)
 

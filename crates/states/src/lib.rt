@@ -5,7 +5,7 @@ ghost use mathlib.Core.List.{[], _∷_};
 ghost use Rattle.rules.specs.Rows.{bytes, digit};
 ghost use Rattle.rules.specs.Flat.{flatWord, flatDigits};
 ghost use Rattle.common.specs.declared.Mode.the-variants.{Board as OnBoard};
-ghost use Rattle.cartridge.specs.Steps.{oddBits};
+ghost use Rattle.cartridge.specs.Steps.{notOneBit};
 ghost use Rattle.states.specs.Words.{mirroringOf, mirroringDigit, cartSizes, banksSizes, irqSizes, cartWord, banksWord, regsWord, irqWord, wordsOf, mapperOf, cartOf, screensOf, uxromOf, cnromOf, mmc1Of, mmc3Of, registersOf, boardIn, digitsOf};
 ghost use Rattle.states.specs.Steps.{cartIsKept, modeIsKept, mmc1IsKept, banksAreKept, mmc3Fits, mmc3IsKept, afterClock, withScreens, afterWrite};
 use boards::Board;
@@ -387,8 +387,8 @@ pub fn cart_is_kept(mapper: MapperType, c: u64, length: u64) -> bool
 }
 
 // Refusal 8, by the one bit of a power of two.
-fn counts_are_odd(c: u64) -> bool
-    ensures { λ r. ⌜ r ≡ oddBits OnBoard (digit (flatDigits cartSizes c) 7) (digit (flatDigits cartSizes c) 8) ⌝ }
+fn counts_not_one_bit(c: u64) -> bool
+    ensures { λ r. ⌜ r ≡ notOneBit OnBoard (digit (flatDigits cartSizes c) 7) (digit (flatDigits cartSizes c) 8) ⌝ }
 {
     let prg = c / 0x100_0000 % 0x1000;
     let chr = c / 0x10_0000_0000 % 0x1000;
@@ -403,7 +403,7 @@ pub fn mode_is_kept(mapper: MapperType, c: u64) -> bool
     let same = c / 0x10_0000 % 4 == c / 0x4_0000 % 4;
     if c / 0x1_0000 % 2 == 0 {
         same
-    } else if counts_are_odd(c) {
+    } else if counts_not_one_bit(c) {
         false
     } else {
         boards::turned_fit(mapper, same, c / 0x10_0000 % 4 < 2)

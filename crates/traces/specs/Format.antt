@@ -14,7 +14,7 @@ use Rattle.boards.specs.declared.Event.the-variants.{Read, Write, Clock}
 abbrev pub big2 : ℕ → ℕ → ℕ
 big2 high low = high * 256 + low
 
--- and one of 4
+-- "numbers big-endian": one of 4 bytes
 abbrev pub big4 : ℕ → ℕ → ℕ → ℕ → ℕ
 big4 a b c d = ((a * 256 + b) * 256 + c) * 256 + d
 
@@ -53,13 +53,13 @@ abbrev pub isEvent : ℕ → ℕ → ℕ → Bool
 isEvent kind address value =
     (eqb kind 0 && eqb value 0) || eqb kind 1 || (eqb kind 2 && eqb address 0 && eqb value 0)
 
--- of event i of a trace
+-- event i of a trace is such an event
 unfoldable pub fitsAt : List ℕ → ℕ → Bool
 fitsAt t i =
     let s = eventStart t i in
     isEvent (byte t s) (big2 (byte t (s + 1)) (byte t (s + 2))) (byte t (s + 3))
 
--- of the first k events
+-- the first k events of a trace are such events
 unfoldable pub eventsFit : List ℕ → ℕ → Bool
 eventsFit t zero = true
 eventsFit t (suc k) = eventsFit t k && fitsAt t k

@@ -6,10 +6,9 @@ use mathlib.Core.List.{List, [], _++_}
 use lib.ListN.{length}
 use Rattle.common.specs.declared.Mode.{Mode}
 use Rattle.common.specs.declared.Refusal.{Refusal}
-use Rattle.common.specs.declared.Refusal.the-variants.{TraceMalformed}
-use Rattle.cartridge.specs.Header.{headerOf}
-use Rattle.cartridge.specs.Load.{verdict, cartridgeOf, loadedAs, ramAfter}
-use Rattle.boards.specs.Start.{loadedBoard}
+use Rattle.common.specs.Answers.{no}
+use Rattle.cartridge.specs.Load.{verdict, ramAfter}
+use Rattle.boards.specs.Start.{load}
 use Rattle.boards.specs.Runs.{lent, Moment, moment, said, stepped}
 use Rattle.boards.specs.declared.Board.{Board}
 use Rattle.boards.specs.declared.Loaded.{Loaded}
@@ -55,10 +54,9 @@ loadedRun (Refused why) t m = stopped why (m .lent .prg) (m .lent .chr)
 
 -- what a load of the image answers
 unfoldable pub loaded : List ℕ → Mode → List ℕ → List ℕ → Loaded
-loaded image mode prg chr =
-    loadedBoard (loadedAs (verdict image mode (length prg) (length chr)) (cartridgeOf (headerOf image) mode (length image)))
+loaded image mode prg chr = load image mode (length prg) (length chr)
 
--- and the moment after it
+-- the moment after the load
 unfoldable pub started : List ℕ → List ℕ → List ℕ → Moment
 started t prg chr =
     let v = verdict (imageOf t) (modeOf t) (length prg) (length chr) in
@@ -70,7 +68,7 @@ traceRun t prg chr = loadedRun (loaded (imageOf t) (modeOf t) prg chr .answer) t
 
 -- "Anything else, missing or left over prints only `refused 15`, before any load"
 unfoldable pub ran : List ℕ → List ℕ → List ℕ → Ran
-ran t prg chr = cond (isTrace t) (traceRun t prg chr) (stopped TraceMalformed prg chr)
+ran t prg chr = cond (isTrace t) (traceRun t prg chr) (stopped (no 15) prg chr)
 
 -- what a run owes its caller: how long the text is, the text from the start of the buffer on, and both RAMs
 pub record RunOwes (w : Ran) (text : List ℕ) (r : ℕ) (prg′ chr′ text′ : List ℕ) : Type 0 where

@@ -37,7 +37,7 @@ impl Uxrom {
         let mode = cart.mode;
         match mode {
             Mode::House => places::house_chr_ram(cart, address),
-            Mode::Board => self.read_landing(cart, address),
+            Mode::Board => places::board_chr_ram(cart, Bank8K(0), address),
         }
     }
 

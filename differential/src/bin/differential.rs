@@ -23,6 +23,9 @@ differential: plays the same calls on the exported library (house mode) and on t
   differential --sabotage NAME        the gate's run with one of our answers altered: it has to fail
   options: --threads N (default: all), --trace FILE (where a failing case is written)";
 
+/// The one that this program links, as docs/DIFFERENCES.md names it beside a long run.
+const LIBRARY: &str = env!("LIBRARY");
+
 struct Options {
     plan: Plan,
     threads: usize,
@@ -61,7 +64,7 @@ fn conclude(options: &Options, summary: &Summary) -> ExitCode {
     match (&summary.failure, summary.shortfall(options.plan)) {
         (None, None) => {
             let paged = grouped(summary.tally.paged());
-            println!("{extent}: {calls} calls compared, {paged} of them through the wrapper too, no mismatch");
+            println!("{extent}: {calls} calls compared, {paged} of them through the wrapper too, no mismatch; library {LIBRARY}");
             ExitCode::SUCCESS
         }
         (None, Some(what)) => {

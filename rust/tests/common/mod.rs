@@ -26,9 +26,10 @@ pub fn image(byte6: u8, prg: u8, chr: u8) -> Vec<u8> {
     image
 }
 
-/// The byte at a place of the data that `image` makes; it differs between any two banks.
+/// The byte at a place of the data that `image` makes; it differs between any two PRG banks that a register can
+/// choose, also between those 256 KB apart.
 pub fn data(place: usize) -> u8 {
-    (place * 31 + place / 1_024 * 7 + 1) as u8
+    (place * 31 + place / 1_024 * 7 + place / 262_144 * 101 + 1) as u8
 }
 
 pub fn load(byte6: u8, prg: u8, chr: u8, mode: Mode) -> Board {

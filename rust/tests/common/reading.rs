@@ -65,9 +65,10 @@ pub fn expected(image: &[u8], mode: Mode, calls: &[Call]) -> Expected {
     let output = child.wait_with_output().expect("it comes to its end");
     assert!(output.status.success());
     let said = output.stdout;
+    assert_eq!(number(&said[..2]), 0, "the second reading refuses the load");
     let (answers, rest) = said.split_at(2 + 2 * calls.len());
     let (digits, rams) = rest.split_at(8 * DIGITS);
-    assert_eq!((number(&answers[..2]), rams.len()), (0, 2 * RAM_LENGTH));
+    assert_eq!(rams.len(), 2 * RAM_LENGTH);
     Expected {
         answers: answers[2..]
             .chunks(2)
@@ -94,7 +95,8 @@ pub fn make(board: &mut Board<&[u8]>, [kind, high, low, value]: Call) -> u16 {
     }
 }
 
-/// An address, often at the edge of a window, and a byte, often a small one.
+/// An address, often at the edge of a window, and a byte, often a small one, at times one at a limit: a power of two,
+/// or one less.
 pub fn address(numbers: &mut Numbers) -> u16 {
     let any = numbers.next() as u16;
     match numbers.next() % 4 {
@@ -107,9 +109,11 @@ pub fn address(numbers: &mut Numbers) -> u16 {
 
 pub fn byte(numbers: &mut Numbers) -> u8 {
     let any = numbers.next() as u8;
-    match numbers.next() % 4 {
-        0 => any,
-        1 => any & 0xC7,
+    match numbers.next() % 8 {
+        0 | 1 => any,
+        2 | 3 => any & 0xC7,
+        4 => 0x80 >> (any % 8),
+        5 => 0xFF >> (any % 8),
         _ => any & 0x07,
     }
 }

@@ -5,4 +5,7 @@ use Rattle.boards.proofs.guarded.Tie as tie
 
 pub guarded-spec : {M : Type 1} → statement M
 unfolding guarded
-guarded-spec = tie.close (tie.spec (λ c. cc) (λ c. cc) (λ c. cc))
+guarded-spec =
+    tie.close
+    (tie.spec
+    (λ c. simp (c .before .if1 .taken, c .if2 .taken)) (λ c. simp (c .before .if1 .taken, c .if2 .left)) (λ c. simp (c .if1 .left)))

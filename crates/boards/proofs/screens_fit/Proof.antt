@@ -1,14 +1,11 @@
--- By the mode. Assumes nothing.
+-- The definition composes what the callees promise. Assumes nothing.
 use Rattle.rules.proofs.Picks.{picks}
-use Rattle.boards.specs.Range.{screensFit}
 use Rattle.boards.proofs.screens_fit.Statement.{statement}
 use Rattle.boards.proofs.screens_fit.Tie as tie
 
 pub screens-fit-spec : {M : Type 1} → statement M
-unfolding screensFit
 screens-fit-spec =
     tie.close
     (tie.spec
-    (λ c. search picks) (λ c. search picks) (λ c κs. search picks)
-    (λ c. cc)
+    (λ c κs. search picks) (λ c κs. search picks) (λ c κs. search picks)
     (λ c. cc))

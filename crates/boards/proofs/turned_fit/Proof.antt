@@ -1,7 +1,7 @@
 -- The branches decide the tests of the definition. Assumes nothing.
 use Rattle.rules.proofs.Picks.{picks}
 use mathlib.Core.Path.{sym, _∙_}
-use Rattle.boards.specs.Range.{turnedFit}
+use Rattle.boards.specs.Steps.{turnedFit}
 use Rattle.boards.proofs.turned_fit.Statement.{statement}
 use Rattle.boards.proofs.turned_fit.Tie as tie
 

@@ -1,5 +1,5 @@
 -- The branches decide the tests of the definition. Assumes nothing.
-use Rattle.cartridge.specs.Load.{firstOf}
+use Rattle.cartridge.specs.Steps.{firstOf}
 use Rattle.cartridge.proofs.first_of.Statement.{statement}
 use Rattle.cartridge.proofs.first_of.Tie as tie
 

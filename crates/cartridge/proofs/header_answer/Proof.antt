@@ -1,5 +1,5 @@
 -- The branches decide the tests of the definition. Assumes nothing.
-use Rattle.cartridge.specs.Header.{headerAnswer}
+use Rattle.cartridge.specs.Steps.{headerAnswer}
 use Rattle.cartridge.proofs.header_answer.Statement.{statement}
 use Rattle.cartridge.proofs.header_answer.Tie as tie
 

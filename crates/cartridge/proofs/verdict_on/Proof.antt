@@ -1,6 +1,6 @@
 -- The definition composes what the callees promise. Assumes nothing.
 use Rattle.rules.proofs.Picks.{picks}
-use Rattle.cartridge.specs.Load.{verdictOn}
+use Rattle.cartridge.specs.Steps.{verdictOn}
 use Rattle.cartridge.proofs.verdict_on.Statement.{statement}
 use Rattle.cartridge.proofs.verdict_on.Tie as tie
 
@@ -11,4 +11,4 @@ verdict-on-spec =
     (tie.spec
     (λ c κs. search picks) (λ c. search picks) (λ c. search picks) (λ c κs. search picks) (λ c. search picks)
     (λ c κs. search picks) (λ c κs. search picks) (λ c κs. search picks) (λ c κs. search picks)
-    (λ c. simp (c .first-of .ensures, c .before .bad-prg .ensures, c .before .before .is-special .ensures, c .before .before .before .odd-counts .ensures, c .before .before .before .before .needed .ensures, c .before .before .before .before .before .before .before .mapper .ensures)))
+    (λ c. simp (c .first-of .ensures, c .before .bad-prg .ensures, c .before .before .is-special .ensures, c .before .before .before .no-powers .ensures, c .before .before .before .before .needed .ensures, c .before .before .before .before .before .before .before .mapper .ensures)))

@@ -2,7 +2,7 @@
 use Rattle.rules.proofs.Picks.{picks}
 use Rattle.boards.specs.Start.{loadedBoard}
 use Rattle.cartridge.specs.Load.{loadedAs, ramAfter}
-use Rattle.exports.specs.Bytes.{kept}
+use Rattle.exports.specs.Bytes.{stateLeft}
 use Rattle.exports.specs.Numbers.{refused, loadNumber}
 use Rattle.exports.proofs.biekkarul_load.Statement.{statement}
 use Rattle.exports.proofs.biekkarul_load.Tie as tie
@@ -22,7 +22,7 @@ returns c =
     }
 
 returns-2 : tie.Need-returns-2
-unfolding kept loadNumber refused loadedAs loadedBoard ramAfter
+unfolding stateLeft loadNumber refused loadedAs loadedBoard ramAfter
 returns-2 c =
     let f = c .before .before .before .rams-fit .ensures in
     let e = c .before .before .if1 .taken in
@@ -35,7 +35,7 @@ returns-2 c =
     }
 
 returns-3 : tie.Need-returns-3
-unfolding kept loadNumber refused loadedAs loadedBoard ramAfter
+unfolding stateLeft loadNumber refused loadedAs loadedBoard ramAfter
 returns-3 c =
     let f = c .before .before .rams-fit .ensures in
     let e = c .before .if1 .left in

@@ -1,12 +1,12 @@
 -- By the answer, and the room for a board. Assumes nothing.
 use borrow.Author.Tests.{lt-ltb, le-ltb, eq-eqb, ne-eqb}
 use Rattle.rules.proofs.Picks.{picks}
-use Rattle.exports.specs.Bytes.{kept}
+use Rattle.exports.specs.Bytes.{stateLeft}
 use Rattle.exports.proofs.keep.Statement.{statement}
 use Rattle.exports.proofs.keep.Tie as tie
 
 pub keep-spec : {M : Type 1} → statement M
-unfolding kept
+unfolding stateLeft
 keep-spec =
     tie.close
     (tie.spec

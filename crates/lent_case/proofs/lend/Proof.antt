@@ -49,12 +49,12 @@ use Rattle.mmc3.proofs.Irq as IrqT
 use Rattle.mmc3.proofs.Irq.Laws as IrqL
 use Rattle.mmc3.proofs.Clocked as ClockedT
 use Rattle.mmc3.proofs.Clocked.Laws as ClockedL
-use Rattle.lent.specs.Lent.{ClockOwes}
-use Rattle.lent.proofs.Machine.{irq-val, mode-val, clocked-val, irq-typed, mode-typed, clocked-typed}
-use Rattle.lent.proofs.clock as callee
-use Rattle.lent.proofs.clock.Symbol as callee-def
-use Rattle.lent.proofs.clock.Symbol.{name as #callee}
-use Rattle.lent.proofs.clock.Met as callee-thm
+use Rattle.lent_irq.specs.Lent.{ClockOwes}
+use Rattle.lent_irq.proofs.Machine.{irq-val, mode-val, clocked-val, irq-typed, mode-typed, clocked-typed}
+use Rattle.lent_irq.proofs.clock as callee
+use Rattle.lent_irq.proofs.clock.Symbol as callee-def
+use Rattle.lent_irq.proofs.clock.Symbol.{name as #callee}
+use Rattle.lent_irq.proofs.clock.Met as callee-thm
 use Rattle.lent_case.proofs.lend.Key.{name as #self}
 use Rattle.lent_case.proofs.lend as self
 use Rattle.lent_case.proofs.lend.Statement as stated
@@ -183,4 +183,4 @@ lend-spec 𝓤 H 𝓜 𝓖 𝓡 =
     entered 𝓤 H (tripleOf 𝓤 H (𝓖 .A) self.signature (self.spec 𝓤 H (𝓖 .A) (𝓜 .mem) (𝓡 .run)))
     (tables 𝓤 H 𝓜 𝓡 code.env .C) (tables 𝓤 H 𝓜 𝓡 code.env .Λ) #self code.function (code.unfolded 𝓤 H 𝓜 𝓡)
     (meets 𝓤 H (𝓖 .A) (givenOf 𝓤 H 𝓜 𝓖) (𝓜 .mem) (𝓡 .run) (tablesOf 𝓤 H 𝓜 (tables 𝓤 H 𝓜 𝓡 code.env))
-    (cited 𝓤 H (Clock 𝓤 H (𝓖 .A) (givenOf 𝓤 H 𝓜 𝓖) (𝓜 .mem) (𝓡 .run)) 𝓜 𝓡 code.env #callee callee-def.routine code.calls-lent·clock (callee-thm.met 𝓤 H 𝓜 𝓖 𝓡)))
+    (cited 𝓤 H (Clock 𝓤 H (𝓖 .A) (givenOf 𝓤 H 𝓜 𝓖) (𝓜 .mem) (𝓡 .run)) 𝓜 𝓡 code.env #callee callee-def.routine code.calls-lent-irq·clock (callee-thm.met 𝓤 H 𝓜 𝓖 𝓡)))

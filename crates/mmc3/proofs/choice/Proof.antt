@@ -2,7 +2,7 @@
 use borrow.Author.Needs.{needs}
 use Rattle.rules.proofs.Picks.{picks}
 use mathlib.Core.Path.{sym}
-use Rattle.mmc3.specs.Read.{choice}
+use Rattle.mmc3.specs.Steps.{choice}
 use Rattle.mmc3.proofs.Choices.{past-slots, past-modes}
 use Rattle.mmc3.proofs.choice.Statement.{statement}
 use Rattle.mmc3.proofs.choice.Tie as tie

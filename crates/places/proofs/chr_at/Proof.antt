@@ -10,4 +10,4 @@ chr-at-spec =
     tie.close
     (tie.spec
     (λ c. search picks) (λ c. search picks) (λ c. search picks) (λ c. search picks) (λ c. search picks)
-    (λ c. search picks) (λ c. cc) (λ c. cc) (λ c. cc))
+    (λ c. search picks) (λ c. cc) (λ c. cc) (λ c. simp (c .enum-told .given .1)))

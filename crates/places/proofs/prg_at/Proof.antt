@@ -9,4 +9,4 @@ unfolding prgAt
 prg-at-spec =
     tie.close
     (tie.spec
-    (λ c. search picks) (λ c. search picks) (λ c. search picks) (λ c. search picks) (λ c. cc) (λ c. cc))
+    (λ c. search picks) (λ c. search picks) (λ c. search picks) (λ c. search picks) (λ c. cc) (λ c. simp (c .enum-told .given .1)))

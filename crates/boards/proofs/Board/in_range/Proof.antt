@@ -1,6 +1,7 @@
 -- What the callees promise, together. Assumes nothing.
 use Rattle.rules.proofs.Picks.{picks}
 use Rattle.boards.specs.Range.{mirroringFits, inRange}
+use Rattle.boards.proofs.Screens.{by-two-tests}
 use Rattle.boards.proofs.Board.in_range.Statement.{statement}
 use Rattle.boards.proofs.Board.in_range.Tie as tie
 
@@ -9,4 +10,4 @@ unfolding inRange mirroringFits
 in-range-spec =
     tie.close
     (tie.spec (λ c κs. search picks) (λ c κs. search picks) (λ c κs. search picks)
-    (λ c. simp (c .screens-kept .ensures, c .before .fits2 .ensures, c .before .before .could-load .ensures)))
+    (λ c. simp (c .screens-fit .ensures, by-two-tests, c .before .fits2 .ensures, c .before .before .could-load .ensures)))

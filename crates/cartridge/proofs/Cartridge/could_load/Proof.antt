@@ -10,4 +10,4 @@ could-load-spec =
     (tie.spec
     (λ c κs. search picks) (λ c κs. search picks) (λ c κs. search picks) (λ c κs. search picks) (λ c. search picks)
     (λ c κs. search picks)
-    (λ c. simp (c .is-headers .ensures, c .before .before .needed .ensures, c .before .before .before .before .before .odd-bits .ensures, c .before .before .before .before .before .before .bad-prg .ensures, c .before .before .before .before .before .before .before .number .ensures) (by-bits (c .before .before .before .before .before .before .before .before .args .self))))
+    (λ c. simp (c .is-headers .ensures, c .before .before .needed .ensures, c .before .before .before .before .before .not-one-bit .ensures, c .before .before .before .before .before .before .bad-prg .ensures, c .before .before .before .before .before .before .before .number .ensures) (by-bits (c .before .before .before .before .before .before .before .before .args .self))))

@@ -9,6 +9,6 @@ unfolding writeWindowIn
 write-landing-spec =
     tie.close
     (tie.spec
-    (λ c. search picks) (λ c κs. search picks) (λ c. search picks) (λ c κs. search picks)
+    (λ c. search picks) (λ c κs. search picks) (λ c. search picks) (λ c. search picks) (λ c κs. search picks)
     (λ c. simp (c .house-write-landing .ensures, c .before .enum-told .given .1))
-    (λ c. simp (c .board-read-landing .ensures, c .before .enum-told2 .given .1)))
+    (λ c. simp (c .board-chr-ram .ensures, c .before .before .enum-told2 .given .1)))

@@ -5,7 +5,7 @@ use native.Mathlib.Omega.{arith}
 use mathlib.Core.Path.{_≡_, refl}
 use lib.ListN.{length}
 use lib.Seq.{set-out}
-use Rattle.mmc3.specs.Write.{applied, keptBits}
+use Rattle.mmc3.specs.Write.{applied, dataBits}
 use Rattle.mmc3.proofs.Mmc3.bank_data.Statement.{statement}
 use Rattle.mmc3.proofs.Mmc3.bank_data.Tie as tie
 
@@ -15,5 +15,5 @@ bank-data-spec =
     tie.close
     (tie.spec
     (λ c κs. search picks) (λ c. search picks) (λ c. search picks)
-    (λ c. simp (c .before .before .kept-bits .ensures))
-    (λ c. let m = c .before .before .before .args .self in let e : length (m .regs) ≡ 8 = search needs in rw (set-out (m .regs) (m .select) (keptBits (m .select) (c .before .before .before .args .value)) (omega arith)) refl))
+    (λ c. simp (c .before .before .data-bits .ensures))
+    (λ c. let m = c .before .before .before .args .self in let e : length (m .regs) ≡ 8 = search needs in rw (set-out (m .regs) (m .select) (dataBits (m .select) (c .before .before .before .args .value)) (omega arith)) refl))

@@ -11,9 +11,9 @@ write-landing-spec =
     tie.close
     (tie.spec
     (λ c. search picks) (λ c. search picks) (λ c κs. search picks) (λ c κs. search picks) (λ c. search picks)
-    (λ c κs. search picks) (λ c. search picks) (λ c κs. search picks)
+    (λ c κs. search picks) (λ c. search picks)
     (λ c. search (picks, c .enum-told .given .1))
-    (λ c. search (picks, c .read-chr .ensures, c .before .enum-told2 .given .1))
+    (λ c. search (picks, c .board-write-chr .ensures, c .before .enum-told2 .given .1))
     (λ c. search picks) (λ c. search picks)
     (λ c. search (picks, c .acknowledged .ensures, c .before .enum-told3 .given .1))
-    (λ c. search (picks, c .read-prg .ensures, c .before .enum-told4 .given .1)))
+    (λ c. search (picks, c .enum-told4 .given .1)))

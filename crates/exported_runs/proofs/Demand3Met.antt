@@ -1,0 +1,205 @@
+-- What meets demand 3's hypotheses in Rattle, and is made of bytes, meets those of the exported calls, so the two histories of each example in `laws` are
+-- examples here. Assumes nothing.
+use Prim.Native.Nat.{ℕ, zero, suc, _<_}
+use mathlib.Core.Path.{_≡_, refl, sym, ap, subst⁻¹, _∙_}
+use mathlib.Core.Bool.{Bool, true, not, _&&_}
+use mathlib.Core.List.{List, [], _∷_}
+use native.Mathlib.Omega.{arith}
+use borrow.Author.Tests.{ltb-true}
+use lib.Dec.{ltb}
+use lib.ListN.{length, replicate}
+use Rattle.rules.proofs.Bools.{and-left, and-right}
+use Rattle.common.specs.Common.{modeOf}
+use Rattle.cartridge.specs.Load.{ramAfter}
+use Rattle.cartridge.specs.declared.MapperType.the-variants.{Mmc1, Mmc3}
+use Rattle.boards.specs.Runs.{Call, call}
+use Rattle.boards.specs.declared.Board.{Board}
+use Rattle.boards.specs.declared.Event.{Event}
+use Rattle.boards.specs.declared.Event.the-variants.{Read, Write, Clock}
+use Rattle.boards.specs.declared.LoadAnswer.the-variants.{Accepted}
+use Rattle.laws.specs.Calls as boards
+use Rattle.laws.specs.Calls.{LentWrite, loadWith}
+use Rattle.laws.specs.Loads.{accepts}
+use Rattle.laws.specs.SettlesMmc1 as mmc1
+use Rattle.laws.specs.SettlesMmc3 as mmc3
+use Rattle.laws.specs.SettlesMmc3.{Arming}
+use Rattle.laws.specs.PLines as images
+use Rattle.laws.proofs.SettlesMmc1Met as on-mmc1
+use Rattle.laws.proofs.SettlesMmc3Met as on-mmc3
+use Rattle.states.specs.Words.{wordsOf}
+use Rattle.exports.specs.Numbers.{loadNumber}
+use Rattle.exports.specs.Bytes.{stateLeft}
+use Rattle.exports.specs.Calls.{decision, loading}
+use Rattle.exports.specs.RoundTrip.{AreBytes}
+use Rattle.exports.proofs.AsBoards.{loads-as}
+use Rattle.exported_runs.specs.Holds.{Holds}
+use Rattle.exported_runs.specs.Runs.{stateAfter, IsByte, WriteBytes}
+use Rattle.exported_runs.specs.Demand3.{LentImage, History, reached, wrote, IsAccepted, Clears, BothCleared, armed, Accepts, BothArmed, SettlesOnMmc3}
+use Rattle.exported_runs.proofs.States.{holds-it, refused-of}
+use Rattle.exported_runs.proofs.Demand3.{reached-holds, wrote-holds, exported-mmc1-settles, exported-mmc3-settles}
+
+-- an accepted load in Rattle is one of the exported load, into forty bytes
+abbrev room : List ℕ
+room = replicate 40 0
+
+module _ (mode : ℕ) (is-mode : mode < 2) (image : List ℕ) where
+  pub answers-0 : (prg chr : List ℕ) → loadWith (modeOf mode) image prg chr .answer ≡ Accepted → loadNumber (loading image mode 40 (length prg) (length chr) .answer) ≡ 0
+  unfolding loadNumber
+  answers-0 prg chr e =
+      loads-as image mode room prg chr (loadWith (modeOf mode) image prg chr) _ _ (loadNumber (loading image mode 40 (length prg) (length chr) .answer)) _ _ _ is-mode refl
+      (record { reply = refl; prg-ram = refl; chr-ram = refl }) (record { reply = refl; state = refl; prg-ram = refl; chr-ram = refl }) .reply
+      ∙ ap loadNumber e
+
+  -- and so is a history
+  abbrev pub exported : (x : boards.History (modeOf mode) image) → WriteBytes (x .calls) → History mode image
+  exported x v =
+      record {
+        lent = room;
+        prg = x .prg;
+        chr = x .chr;
+        loaded = stateLeft room 0 (wordsOf (loading image mode 40 (length (x .prg)) (length (x .chr)) .board));
+        prg′ = ramAfter (decision image mode 40 (length (x .prg)) (length (x .chr))) (x .prg);
+        chr′ = ramAfter (decision image mode 40 (length (x .prg)) (length (x .chr))) (x .chr);
+        load-owes = record { reply = sym (answers-0 (x .prg) (x .chr) (x .accepted)); state = refl; prg-ram = refl; chr-ram = refl };
+        calls = x .calls;
+        write-bytes = v;
+      }
+
+-- an accepted write answers no refusal
+taken : {s : List ℕ} {b : Board} → Holds s b → (w : LentWrite) → w .byte < 0x100 → accepts b (w .lent) (w .address) ≡ true → IsAccepted s w
+taken h w v e = record { a-byte = v; no-refusal = refused-of h (w .lent) (w .address) (w .byte) ∙ ap not e }
+
+clears : {s : List ℕ} {b : Board} → Holds s b → (w : LentWrite) → w .byte < 0x100 → mmc1.Clears w b → Clears w s
+clears h w v c = record { to-8000-FFFF = c .to-8000-FFFF; bit-7 = c .bit-7; accepted = taken h w v (c .accepted) }
+
+-- the three writes are of bytes
+abbrev ArmingBytes : Arming → Type 0
+ArmingBytes w = (w .latch .byte < 0x100) × (w .reload .byte < 0x100) × (w .enable .byte < 0x100)
+
+arms : {s : List ℕ} {b : Board} → Holds s b → (w : Arming) → ArmingBytes w → mmc3.Accepts b w → Accepts s w
+arms {s} {b} h w v a =
+    record {
+      is-latch = a .is-latch;
+      is-reload = a .is-reload;
+      is-enable = a .is-enable;
+      latch = latch;
+      reload = reload;
+      enable = taken (wrote-holds latched (w .reload) reload) (w .enable) (v .2) (a .enable);
+    }
+  where
+    latch : IsAccepted s (w .latch)
+    latch = taken h (w .latch) (v .0) (a .latch)
+
+    latched : Holds (wrote s (w .latch)) (mmc3.latched b w)
+    latched = wrote-holds h (w .latch) latch
+
+    reload : IsAccepted (wrote s (w .latch)) (w .reload)
+    reload = taken latched (w .reload) (v .1) (a .reload)
+
+-- lists that are computed to be of bytes
+allBytes : List ℕ → Bool
+allBytes [] = true
+allBytes (v ∷ s) = ltb v 0x100 && allBytes s
+
+are-bytes : (s : List ℕ) → allBytes s ≡ true → AreBytes s
+unfolding allBytes
+are-bytes [] h i = omega arith
+are-bytes (v ∷ s) h zero = ltb-true v 0x100 (and-left (ltb v 0x100) (allBytes s) h)
+are-bytes (v ∷ s) h (suc i) = are-bytes s (and-right (ltb v 0x100) (allBytes s) h) i
+
+written : Event → Bool
+written (Read a) = true
+written (Write a v) = ltb v 0x100
+written Clock = true
+
+a-byte : (e : Event) → written e ≡ true → IsByte e
+unfolding written
+a-byte (Read a) h = tt
+a-byte (Write a v) h = ltb-true v 0x100 h
+a-byte Clock h = tt
+
+pub allWritten : List Call → Bool
+allWritten [] = true
+allWritten (call l e ∷ cs) = written e && allWritten cs
+
+pub write-bytes : (cs : List Call) → allWritten cs ≡ true → WriteBytes cs
+unfolding allWritten
+write-bytes [] h = tt
+write-bytes (call l e ∷ cs) h = (a-byte e (and-left (written e) (allWritten cs) h), write-bytes cs (and-right (written e) (allWritten cs) h))
+
+-- MMC1: the histories of `SettlesMmc1Met`, as exported calls
+mmc1-image : LentImage Mmc1 images.mmc1
+unfolding allBytes
+mmc1-image = record { mapper = on-mmc1.met-image .mapper; are-bytes = are-bytes images.mmc1 refl; of-a-length = ltb-true (length images.mmc1) 0x10000000000000000 refl }
+
+module _ (mode : ℕ) (is-mode : mode < 2) where
+  pub used-bytes : WriteBytes (on-mmc1.used (modeOf mode) .calls)
+  unfolding allWritten written
+  used-bytes = write-bytes (on-mmc1.used (modeOf mode) .calls) refl
+
+  abbrev pub fresh-mmc1 : History mode images.mmc1
+  fresh-mmc1 = exported mode is-mode images.mmc1 (on-mmc1.fresh (modeOf mode)) tt
+
+  abbrev pub used-mmc1 : History mode images.mmc1
+  used-mmc1 = exported mode is-mode images.mmc1 (on-mmc1.used (modeOf mode)) used-bytes
+
+  pub mmc1-both : BothCleared fresh-mmc1 used-mmc1 (on-mmc1.bit7 on-mmc1.lent) (on-mmc1.bit7 on-mmc1.others) (on-mmc1.calls on-mmc1.lent) (on-mmc1.calls on-mmc1.others)
+  unfolding allWritten written
+  mmc1-both =
+      record {
+        of-mmc1 = mmc1-image;
+        first-accepts = clears (reached-holds mmc1-image fresh-mmc1) (on-mmc1.bit7 on-mmc1.lent) (omega arith) (on-mmc1.met-fresh (modeOf mode));
+        second-accepts = clears (reached-holds mmc1-image used-mmc1) (on-mmc1.bit7 on-mmc1.others) (omega arith) (on-mmc1.met-used (modeOf mode));
+        then-the-same-calls =
+            record {
+              same-calls = refl;
+              first-bytes = write-bytes (on-mmc1.calls on-mmc1.lent) refl;
+              second-bytes = write-bytes (on-mmc1.calls on-mmc1.others) refl;
+            };
+      }
+
+  -- so their forty bytes are the same after the four loads
+  pub met-mmc1 : stateAfter (wrote (reached fresh-mmc1) (on-mmc1.bit7 on-mmc1.lent)) (on-mmc1.calls on-mmc1.lent)
+      ≡ stateAfter (wrote (reached used-mmc1) (on-mmc1.bit7 on-mmc1.others)) (on-mmc1.calls on-mmc1.others)
+  met-mmc1 =
+      exported-mmc1-settles fresh-mmc1 used-mmc1 (on-mmc1.bit7 on-mmc1.lent) (on-mmc1.bit7 on-mmc1.others) (on-mmc1.calls on-mmc1.lent) (on-mmc1.calls on-mmc1.others) mmc1-both .the-bytes-agree
+      (subst⁻¹ (λ (b : Board). mmc1.Settled b (on-mmc1.calls on-mmc1.lent))
+      (holds-it (wrote-holds (reached-holds mmc1-image fresh-mmc1) (on-mmc1.bit7 on-mmc1.lent) (mmc1-both .first-accepts .accepted)))
+      (on-mmc1.met-settled (modeOf mode)))
+
+-- MMC3: the histories of `SettlesMmc3Met`, as exported calls
+mmc3-image : LentImage Mmc3 images.mmc3
+unfolding allBytes
+mmc3-image = record { mapper = on-mmc3.met-image .mapper; are-bytes = are-bytes images.mmc3 refl; of-a-length = ltb-true (length images.mmc3) 0x10000000000000000 refl }
+
+module _ (mode : ℕ) (is-mode : mode < 2) where
+  pub game-bytes : WriteBytes (on-mmc3.used (modeOf mode) .calls)
+  unfolding allWritten written
+  game-bytes = write-bytes (on-mmc3.used (modeOf mode) .calls) refl
+
+  abbrev pub fresh-mmc3 : History mode images.mmc3
+  fresh-mmc3 = exported mode is-mode images.mmc3 (on-mmc3.fresh (modeOf mode)) tt
+
+  abbrev pub used-mmc3 : History mode images.mmc3
+  used-mmc3 = exported mode is-mode images.mmc3 (on-mmc3.used (modeOf mode)) game-bytes
+
+  pub mmc3-both : BothArmed fresh-mmc3 used-mmc3 (on-mmc3.arming on-mmc3.lent) (on-mmc3.arming on-mmc3.others) (on-mmc3.calls on-mmc3.lent) (on-mmc3.calls on-mmc3.others)
+  unfolding allWritten written
+  mmc3-both =
+      record {
+        of-mmc3 = mmc3-image;
+        first-accepts = arms (reached-holds mmc3-image fresh-mmc3) (on-mmc3.arming on-mmc3.lent) (omega arith, omega arith, omega arith) (on-mmc3.met-fresh (modeOf mode));
+        second-accepts = arms (reached-holds mmc3-image used-mmc3) (on-mmc3.arming on-mmc3.others) (omega arith, omega arith, omega arith) (on-mmc3.met-used (modeOf mode));
+        one-latch = refl;
+        then-the-same-calls =
+            record {
+              same-calls = refl;
+              first-bytes = write-bytes (on-mmc3.calls on-mmc3.lent) refl;
+              second-bytes = write-bytes (on-mmc3.calls on-mmc3.others) refl;
+            };
+      }
+
+  -- so they answer the same numbers to clocks
+  pub met-mmc3 : SettlesOnMmc3 (armed (reached fresh-mmc3) (on-mmc3.arming on-mmc3.lent)) (armed (reached used-mmc3) (on-mmc3.arming on-mmc3.others)) (on-mmc3.calls on-mmc3.lent) (on-mmc3.calls on-mmc3.others)
+  met-mmc3 =
+      exported-mmc3-settles fresh-mmc3 used-mmc3 (on-mmc3.arming on-mmc3.lent) (on-mmc3.arming on-mmc3.others) (on-mmc3.calls on-mmc3.lent) (on-mmc3.calls on-mmc3.others) mmc3-both

@@ -1,0 +1,12 @@
+// MMC3's interrupt unit lent by its owner: a clock updates it where it stands.
+ghost use Rattle.lent_irq.specs.Lent.{ClockOwes};
+use common::Mode;
+use mmc3::Irq;
+
+pub fn clock(irq: &mut Irq, mode: Mode) -> bool
+    ensures { λ r. ⌜ ClockOwes mode (now (irq .entry)) r (now (irq .exit)) ⌝ }
+{
+    let clocked = Irq::clock(*irq, mode);
+    *irq = clocked.irq;
+    clocked.answer
+}
