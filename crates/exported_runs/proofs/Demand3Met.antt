@@ -11,6 +11,7 @@ use lib.ListN.{length, replicate}
 use Rattle.rules.proofs.Bools.{and-left, and-right}
 use Rattle.common.specs.Common.{modeOf}
 use Rattle.cartridge.specs.Load.{ramAfter}
+use Rattle.cartridge.specs.declared.MapperType.{MapperType}
 use Rattle.cartridge.specs.declared.MapperType.the-variants.{Mmc1, Mmc3}
 use Rattle.boards.specs.Runs.{Call, call}
 use Rattle.boards.specs.declared.Board.{Board}
@@ -18,7 +19,8 @@ use Rattle.boards.specs.declared.Event.{Event}
 use Rattle.boards.specs.declared.Event.the-variants.{Read, Write, Clock}
 use Rattle.boards.specs.declared.LoadAnswer.the-variants.{Accepted}
 use Rattle.laws.specs.Calls as boards
-use Rattle.laws.specs.Calls.{LentWrite, loadWith}
+use Rattle.laws.specs.Calls.{LentWrite, loadWith, SameCalls}
+use Rattle.laws.specs.Demand3.{ImageOf}
 use Rattle.laws.specs.Loads.{accepts}
 use Rattle.laws.specs.SettlesMmc1 as mmc1
 use Rattle.laws.specs.SettlesMmc3 as mmc3
@@ -34,7 +36,7 @@ use Rattle.exports.specs.RoundTrip.{AreBytes}
 use Rattle.exports.proofs.AsBoards.{loads-as}
 use Rattle.exported_runs.specs.Holds.{Holds}
 use Rattle.exported_runs.specs.Runs.{stateAfter, IsByte, WriteBytes}
-use Rattle.exported_runs.specs.Demand3.{LentImage, History, reached, wrote, IsAccepted, Clears, BothCleared, armed, Accepts, BothArmed, SettlesOnMmc3}
+use Rattle.exported_runs.specs.Demand3.{LentImage, History, reached, wrote, IsAccepted, Clears, SameBytes, BothCleared, armed, Accepts, BothArmed, SettlesOnMmc3}
 use Rattle.exported_runs.proofs.States.{holds-it, refused-of}
 use Rattle.exported_runs.proofs.Demand3.{reached-holds, wrote-holds, exported-mmc1-settles, exported-mmc3-settles}
 
@@ -127,10 +129,17 @@ unfolding allWritten
 write-bytes [] h = tt
 write-bytes (call l e ∷ cs) h = (a-byte e (and-left (written e) (allWritten cs) h), write-bytes cs (and-right (written e) (allWritten cs) h))
 
+-- an image, and calls for two boards, by tests that compute
+lent-image : (k : MapperType) (s : List ℕ) → ImageOf k s → allBytes s ≡ true → ltb (length s) 0x10000000000000000 ≡ true → LentImage k s
+lent-image k s i b n = record { mapper = i .mapper; are-bytes = are-bytes s b; of-a-length = ltb-true (length s) 0x10000000000000000 n }
+
+same-bytes : (cs ds : List Call) → SameCalls cs ds → allWritten cs ≡ true → allWritten ds ≡ true → SameBytes cs ds
+same-bytes cs ds e f g = record { same-calls = e; first-bytes = write-bytes cs f; second-bytes = write-bytes ds g }
+
 -- MMC1: the histories of `SettlesMmc1Met`, as exported calls
 mmc1-image : LentImage Mmc1 images.mmc1
 unfolding allBytes
-mmc1-image = record { mapper = on-mmc1.met-image .mapper; are-bytes = are-bytes images.mmc1 refl; of-a-length = ltb-true (length images.mmc1) 0x10000000000000000 refl }
+mmc1-image = lent-image Mmc1 images.mmc1 on-mmc1.met-image refl refl
 
 module _ (mode : ℕ) (is-mode : mode < 2) where
   pub used-bytes : WriteBytes (on-mmc1.used (modeOf mode) .calls)
@@ -150,12 +159,7 @@ module _ (mode : ℕ) (is-mode : mode < 2) where
         of-mmc1 = mmc1-image;
         first-accepts = clears (reached-holds mmc1-image fresh-mmc1) (on-mmc1.bit7 on-mmc1.lent) (omega arith) (on-mmc1.met-fresh (modeOf mode));
         second-accepts = clears (reached-holds mmc1-image used-mmc1) (on-mmc1.bit7 on-mmc1.others) (omega arith) (on-mmc1.met-used (modeOf mode));
-        then-the-same-calls =
-            record {
-              same-calls = refl;
-              first-bytes = write-bytes (on-mmc1.calls on-mmc1.lent) refl;
-              second-bytes = write-bytes (on-mmc1.calls on-mmc1.others) refl;
-            };
+        then-the-same-calls = same-bytes (on-mmc1.calls on-mmc1.lent) (on-mmc1.calls on-mmc1.others) refl refl refl;
       }
 
   -- so their forty bytes are the same after the four loads
@@ -170,7 +174,7 @@ module _ (mode : ℕ) (is-mode : mode < 2) where
 -- MMC3: the histories of `SettlesMmc3Met`, as exported calls
 mmc3-image : LentImage Mmc3 images.mmc3
 unfolding allBytes
-mmc3-image = record { mapper = on-mmc3.met-image .mapper; are-bytes = are-bytes images.mmc3 refl; of-a-length = ltb-true (length images.mmc3) 0x10000000000000000 refl }
+mmc3-image = lent-image Mmc3 images.mmc3 on-mmc3.met-image refl refl
 
 module _ (mode : ℕ) (is-mode : mode < 2) where
   pub game-bytes : WriteBytes (on-mmc3.used (modeOf mode) .calls)
@@ -191,12 +195,7 @@ module _ (mode : ℕ) (is-mode : mode < 2) where
         first-accepts = arms (reached-holds mmc3-image fresh-mmc3) (on-mmc3.arming on-mmc3.lent) (omega arith, omega arith, omega arith) (on-mmc3.met-fresh (modeOf mode));
         second-accepts = arms (reached-holds mmc3-image used-mmc3) (on-mmc3.arming on-mmc3.others) (omega arith, omega arith, omega arith) (on-mmc3.met-used (modeOf mode));
         one-latch = refl;
-        then-the-same-calls =
-            record {
-              same-calls = refl;
-              first-bytes = write-bytes (on-mmc3.calls on-mmc3.lent) refl;
-              second-bytes = write-bytes (on-mmc3.calls on-mmc3.others) refl;
-            };
+        then-the-same-calls = same-bytes (on-mmc3.calls on-mmc3.lent) (on-mmc3.calls on-mmc3.others) refl refl refl;
       }
 
   -- so they answer the same numbers to clocks
