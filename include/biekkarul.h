@@ -23,7 +23,7 @@ extern "C" {
 #endif
 
 /* The version of the calls that this header declares; biekkarul_version() answers the library's. */
-#define BIEKKARUL_VERSION 2
+#define BIEKKARUL_VERSION 3
 
 /* Lengths of the lent buffers, in bytes. */
 #define BIEKKARUL_STATE_LENGTH 40  /* a board */
@@ -76,7 +76,7 @@ extern "C" {
 #define BIEKKARUL_HEADER_TOO_SHORT 1        /* header: fewer than 16 bytes */
 #define BIEKKARUL_HEADER_NOT_INES 2         /* header: bytes 0-3 are not 4E 45 53 1A */
 #define BIEKKARUL_IMAGE_NOT_INES 3          /* load: fewer than 16,400 bytes, or bytes 0-3 wrong */
-#define BIEKKARUL_MAPPER_NOT_TAKEN 4        /* load: mapper above 4 */
+#define BIEKKARUL_MAPPER_NOT_TAKEN 4        /* load: mapper above 4; in board mode by NES 2.0's longer number */
 #define BIEKKARUL_TRAINER_OR_FOUR_SCREEN 5  /* load: byte 6 has bit 2 or bit 3 */
 #define BIEKKARUL_PRG_COUNT_NOT_TAKEN 6     /* load: PRG count 0; or above 2 for mappers 0 and 3 */
 #define BIEKKARUL_IMAGE_TOO_SHORT 7         /* load: shorter than 16 + 16,384 x PRG + 8,192 x CHR */
@@ -87,17 +87,18 @@ extern "C" {
 #define BIEKKARUL_NO_CHR_RAM 12             /* house write: NROM, MMC1, UxROM, 0000-1FFF, CHR ROM */
 #define BIEKKARUL_NO_SUCH_PLACE 13          /* house CNROM: 2000-7FFF; or a read of 8000-BFFF with PRG 1 */
 #define BIEKKARUL_IRQ_PENDING 14            /* house MMC3: even write, E000-FFFF, IRQ enabled, counter 0 or 1 */
+#define BIEKKARUL_NES2_NOT_TAKEN 16         /* load, board mode, NES 2.0: see biekkarul_load */
 
 /* The places of a state's digits; docs/ABI.md has what each says and its range. */
 enum biekkarul_digit {
     BIEKKARUL_DIGIT_VERSION,
     BIEKKARUL_DIGIT_MAPPER, /* 0 NROM, 1 MMC1, 2 UxROM, 3 CNROM, 4 MMC3 */
     BIEKKARUL_DIGIT_MODE,
-    BIEKKARUL_DIGIT_NES2,
+    BIEKKARUL_DIGIT_NES2, /* 1 where byte 7 marks NES 2.0, in either mode */
     BIEKKARUL_DIGIT_HEADER_MIRRORING, /* 0 horizontal, 1 vertical */
     BIEKKARUL_DIGIT_MIRRORING,        /* 0 horizontal, 1 vertical, 2 upper screen, 3 lower screen */
-    BIEKKARUL_DIGIT_PRG_RAM,
-    BIEKKARUL_DIGIT_PRG_COUNT,
+    BIEKKARUL_DIGIT_PRG_RAM,   /* 1 PRG RAM is there, 0 it is not: board mode and NES 2.0 only */
+    BIEKKARUL_DIGIT_PRG_COUNT, /* up to 255; in board mode a power of two, there with NES 2.0 up to 2,048 */
     BIEKKARUL_DIGIT_CHR_COUNT,
     BIEKKARUL_DIGIT_IMAGE_LENGTH,
     BIEKKARUL_DIGIT_UXROM_BANK,
@@ -141,8 +142,18 @@ uint16_t biekkarul_header(const uint8_t *image, size_t image_length,
 
 /*
  * Loads an image, header included: writes the state and fills both RAMs with zero.
+ *
+ * In board mode, where byte 7 AND 0C is 08, the header is NES 2.0's: the low nibble of byte 8 stands above the mapper
+ * number, the low nibble of byte 9 above the PRG count (byte 4) and its high nibble above the CHR count (byte 5). Byte 10
+ * is 00 where there is no PRG RAM: then 6000-7FFF reads 0 and ignores writes on MMC1 and MMC3; both RAMs are lent all the
+ * same. House mode records the mark and reads bytes 8 to 15 as little as it does without.
+ *
+ * Refusal 16, in board mode under that mark: the high nibble of byte 8, the submapper, is not 0; or a nibble of byte 9
+ * is F, the exponent form; or byte 10 or byte 11 is none of 00, 07 and 70; or byte 11, which tells of CHR RAM, is 00 with
+ * CHR count 0, or is not 00 with another.
+ *
  * Answers 0. Refusals, the first that applies: 9, 10 (state_length is not 40, or mode is neither 0 nor 1),
- * 3, 4, 5, 6, 7, 8.
+ * 3, 4, 5, 16, 6, 7, 8.
  */
 uint16_t biekkarul_load(const uint8_t *image, size_t image_length, uint8_t mode,
                         uint8_t *state, size_t state_length,

@@ -1,6 +1,6 @@
 #!/usr/bin/env bash
 # tracerun on traces of every board, and on inputs that are no trace. The expected answers are worked out by hand from
-# document 01. Runs after `rt ci`, which leaves target/bin/tracerun.
+# document 01 and from M-100 of document 02. Runs after `rt ci`, which leaves target/bin/tracerun.
 set -uo pipefail
 source "$(dirname "${BASH_SOURCE[0]}")/need.bash" || exit 2
 cd "$(dirname "${BASH_SOURCE[0]}")/.." || exit 2
@@ -18,6 +18,9 @@ bytes() { # bytes HEX..: the bytes of hex digits
 fill() { head -c "$1" /dev/zero | tr '\0' "\\$(printf %o "0x$2")"; } # fill COUNT HEX: COUNT bytes of one value
 header() { # header PRG CHR FLAGS6: an iNES header, counts in decimal, byte 6 in hex
   bytes "4E45531A $(printf '%02X%02X' "$1" "$2") $3 000000000000000000"
+}
+nes2_header() { # nes2_header PRG CHR FLAGS6 HEX: one that byte 7 marks as NES 2.0, with bytes 8 to 11
+  bytes "4E45531A $(printf '%02X%02X' "$1" "$2") $3 08 $4 00000000"
 }
 trace() { # trace MODE IMAGE EVENT..: a well-formed trace of a file and of events of eight hex digits
   local mode=$1 image=$2
@@ -98,6 +101,24 @@ plays "house MMC3: notices against the header's, refusal 14" 00 "$dir/mmc3" \
 plays "board MMC3: notices against the current mirroring, no refusal" 01 "$dir/mmc3" \
   "$(W A000=01)$(W A000=01)$(W A000=00)$(W E001=00)$(W E000=00)$(W 8000=02)$(W 8001=0D)$(R 1000)" \
   "load 4 V 1 1" "W H" "W -" "W V" "W -" "W -" "W -" "W -" "R 85"
+
+# ---- NES 2.0: house mode reads these images as iNES, board mode as M-100 says
+{ nes2_header 2 0 11 00000007; fill 16384 10; fill 16384 11; } >"$dir/mmc1-without-ram"
+{ nes2_header 2 0 11 00007070; fill 16384 10; fill 16384 11; } >"$dir/mmc1-with-ram"
+{ nes2_header 1 1 41 00000000; fill 16384 10; fill 8192 C0; } >"$dir/mmc3-without-ram"
+{ nes2_header 1 1 20 00010700; fill 16384 10; fill 8192 C0; } >"$dir/prg-257"
+{ nes2_header 1 0 20 00100000; fill 16384 10; } >"$dir/chr-256"
+ram="$(W 6000=99)$(R 6000)$(W 7FFF=98)$(R 7FFF)$(W 1FFF=5A)$(R 1FFF 8000)"
+plays "board MMC1 without PRG RAM: 6000-7FFF reads 0 and ignores writes, CHR RAM is there" 01 "$dir/mmc1-without-ram" "$ram" \
+  "load 1 V 2 0" "W -" "R 00" "W -" "R 00" "W -" "R 5A" "R 10"
+plays "board MMC1 with PRG RAM by its high nibble" 01 "$dir/mmc1-with-ram" "$ram" \
+  "load 1 V 2 0" "W -" "R 99" "W -" "R 98" "W -" "R 5A" "R 10"
+plays "board MMC3 without PRG RAM" 01 "$dir/mmc3-without-ram" "$ram" \
+  "load 4 V 1 1" "W -" "R 00" "W -" "R 00" "W -" "R C0" "R 10"
+plays "house MMC1 has PRG RAM, whatever byte 10 says" 00 "$dir/mmc1-without-ram" "$ram" \
+  "load 1 V 2 0" "W -" "R 99" "W -" "R 98" "W -" "R 5A" "R 10"
+plays "house mode counts by bytes 4 and 5 alone, PRG" 00 "$dir/prg-257" "$(R 8000 0000)" "load 2 H 1 1" "R 10" "R C0"
+plays "house mode counts by bytes 4 and 5 alone, CHR" 00 "$dir/chr-256" "$(R 8000 0000)" "load 2 H 1 0" "R 10" "R 00"
 plays "no event at all" 01 "$dir/nrom" "" "load 0 V 1 0"
 
 # ---- 1,024 events, the most: the last line is the 1,024th
@@ -126,6 +147,26 @@ refused 5 "byte 6 has bit 3" 00 "$dir/i5"
 refused 6 "three PRG blocks on NROM" 00 "$dir/i6"
 refused 7 "an image one byte short of its blocks" 00 "$dir/i7"
 refused 8 "board mode, three CHR blocks" 01 "$dir/i8"
+# no trace has room for a count above 255, so its `load` line shows none: 7 says that the longer count was judged
+refused 7 "board mode, 257 PRG blocks by byte 9 and an image of one" 01 "$dir/prg-257"
+refused 7 "board mode, 256 CHR blocks by byte 9 and an image of none" 01 "$dir/chr-256"
+nes2_refused() { # nes2_refused NUMBER NAME PRG CHR FLAGS6 HEX: in board mode
+  { nes2_header "$3" "$4" "$5" "$6"; fill 40960 00; } >"$dir/nes2"
+  refused "$1" "board mode, NES 2.0, $2" 01 "$dir/nes2"
+}
+nes2_refused 4 "mapper 260, before byte 6's bit 2 and a submapper" 1 1 44 11000700
+nes2_refused 5 "byte 6 has bit 3, before a submapper" 1 1 48 10000700
+nes2_refused 16 "a submapper" 1 1 40 10000700
+nes2_refused 16 "a PRG exponent" 1 1 40 000F0700
+nes2_refused 16 "a CHR exponent" 1 1 40 00F00700
+nes2_refused 16 "PRG RAM on both sides" 1 1 40 00007700
+nes2_refused 16 "PRG RAM of 16 KB" 1 1 40 00000800
+nes2_refused 16 "CHR RAM of 16 KB" 1 0 40 00000080
+nes2_refused 16 "CHR RAM beside CHR ROM" 1 1 40 00000707
+nes2_refused 16 "neither CHR RAM nor CHR ROM" 1 0 40 00000700
+nes2_refused 16 "no PRG block, but a submapper first" 0 1 40 10000700
+nes2_refused 6 "no PRG block" 0 1 40 00000700
+nes2_refused 8 "three CHR blocks" 1 3 40 00000700
 plays "house mode takes three CHR blocks" 00 "$dir/i8" "" "load 1 H 1 3"
 
 # ---- no trace: refused 15 alone, even where the load would be refused as well

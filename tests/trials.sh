@@ -21,14 +21,15 @@ tracerun_object "$work/tracerun.o" >"$work/log" 2>&1 ||
 shipped_beside "$library" "$work/beside.a" && tracerun_within "$work/tracerun.o" "$work/within.o" || exit 1
 mkdir "$work/calls" "$work/traces" && seeds "$work/calls" "$work/traces" || exit 1
 
-built() { # built NAME SOURCE WORDS..
-  local name=$1 source=$2
-  shift 2
-  gcc -O1 -std=c11 -Wall -Wextra -Werror -Iinclude -o "$work/$name" "$source" trials/plain.c "$@" ||
+built() { # built NAME LEVEL SOURCE WORDS..: at a level of optimisation
+  local name=$1 level=$2 source=$3
+  shift 3
+  gcc "-O$level" -std=c11 -Wall -Wextra -Werror -Iinclude -o "$work/$name" "$source" "$@" ||
     { echo "$source does not build"; exit 1; }
 }
-built calls-trial trials/calls.c "$library" "$work/beside.a"
-built traces-trial trials/traces.c "$work/within.o"
+built plain.o 1 trials/plain.c -c
+built calls-trial 1 trials/calls.c "$work/plain.o" "$library" "$work/beside.a"
+built traces-trial 1 trials/traces.c "$work/plain.o" "$work/within.o"
 
 for name in calls traces; do
   "$work/$name-trial" 20000 "$work/$name"/* >"$work/log" 2>&1 || { cat "$work/log"; echo "$name: not as the model says"; exit 1; }
@@ -38,7 +39,8 @@ done
 mkdir "$work/fault" && cp trials/calls.c trials/lent.h "$work/fault" || exit 1
 found=0
 while fault; do
-  built faulty "$work/fault/calls.c" "$library" "$work/beside.a"
+  # a fault is found early, so that to optimise its trial would take longer than to run it
+  built faulty 0 "$work/fault/calls.c" "$work/plain.o" "$library" "$work/beside.a"
   # within brackets, so that the shell's word of its end goes to the log too
   if ("$work/faulty" 20000 "$work/calls"/*; exit) >"$work/log" 2>&1 || ! grep -q '^broken at ' "$work/log"; then
     echo "not found: $old => $new"

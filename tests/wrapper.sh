@@ -90,6 +90,17 @@ inspected() {
   says "$3" "$1 mode: $2" inspect "$work/game.nes"
 }
 
+marked() { # marked PRG CHR BYTE6 BYTE8 BYTE9 BYTE10 BYTE11 LENGTH: the same, marked NES 2.0
+  printf "NES\\x1a\\x$1\\x$2\\x$3\\x08\\x$4\\x$5\\x$6\\x$7"
+  head -c $(($8 - 12)) /dev/zero
+}
+
+# inspected_marked LINE STATUS PRG CHR BYTE6 BYTE8 BYTE9 BYTE10 BYTE11 LENGTH: a line about such an image
+inspected_marked() {
+  marked "${@:3}" >"$work/game.nes"
+  says "$2" "$1" inspect "$work/game.nes"
+}
+
 # A complaint about each of the 64 runs, of which some are about an answer
 finds_every_fault() {
   says 1 "shop: run 1: event 2048 (read BB4E) was answered 'R 9C' and is now answered 'R 44'" shop --fault &&
@@ -274,6 +285,43 @@ step "inspect: counts that are no powers of two" inspected board \
   "refused 8 (CountNoPowerOfTwo): PRG count 3 and CHR count 5, but board mode takes 1, 2, 4, 8, 16, 32, 64 or 128" \
   0 03 05 20 90128
 step "inspect: the same in house mode" inspected house accepted 0 03 05 20 90128
+step "inspect: an NES 2.0 image" \
+  inspected_marked "'$work/game.nes' is an NES 2.0 image of 32784 bytes" 0 02 00 10 00 00 00 07 32784
+step "inspect: an NES 2.0 image, house mode's reading" \
+  inspected_marked "  as house mode reads it:" 0 02 00 10 00 00 00 07 32784
+step "inspect: NES 2.0 without PRG RAM" inspected_marked \
+  "board mode: accepted, without PRG RAM: 6000-7FFF reads 0 and ignores writes" 0 02 00 10 00 00 00 07 32784
+step "inspect: its shifts of PRG RAM" \
+  inspected_marked "    PRG RAM       none (shift 0; of battery RAM 0)" 0 02 00 10 00 00 00 07 32784
+step "inspect: NES 2.0 with PRG RAM" \
+  inspected_marked "board mode: accepted, with PRG RAM" 0 02 00 40 00 00 70 07 32784
+step "inspect: NES 2.0 with PRG RAM that NROM does not show" \
+  inspected_marked "board mode: accepted, with PRG RAM, which this board does not show" 0 02 00 00 00 00 07 07 32784
+step "inspect: NES 2.0 in house mode" inspected_marked "house mode: accepted" 0 02 00 10 1F FF 77 77 32784
+step "inspect: a longer mapper number" inspected_marked \
+  "board mode: refused 4 (MapperNotTaken): mapper 257, but only 0 NROM, 1 MMC1, 2 UxROM, 3 CNROM and 4 MMC3 are taken" \
+  0 02 00 10 01 00 00 07 32784
+step "inspect: a submapper" \
+  inspected_marked "board mode: refused 16 (Nes2NotTaken): byte 8 is 50: submapper 5, but only 0 is taken" 0 02 00 10 50 00 00 07 32784
+step "inspect: the submapper's line" inspected_marked "    submapper     5" 0 02 00 10 50 00 00 07 32784
+step "inspect: CHR RAM that is said nowhere" inspected_marked \
+  "board mode: refused 16 (Nes2NotTaken): the CHR count is 0, which means CHR RAM, but byte 11 is 00 and says none" \
+  0 02 00 10 00 00 00 00 32784
+step "inspect: all that NES 2.0 has and no load takes" inspected_marked \
+  "board mode: refused 16 (Nes2NotTaken): byte 8 is 10: submapper 1, but only 0 is taken; \
+byte 9 is FF: the PRG count is in exponent form, which is not taken; \
+byte 9 is FF: the CHR count is in exponent form, which is not taken; \
+byte 10 is 77, but PRG RAM is taken with 00, 07 or 70 only; \
+byte 11 is 08, but CHR RAM is taken with 00, 07 or 70 only; \
+the CHR count is not 0, but byte 11 is 08 and says CHR RAM" 0 02 00 10 10 FF 77 08 32784
+step "inspect: a longer count" inspected_marked "    PRG ROM       257 blocks of 16384 bytes" 0 01 00 10 00 01 00 07 16400
+step "inspect: a longer count and too few bytes" inspected_marked \
+  "board mode: refused 7 (ImageTooShort): 16400 bytes, but PRG count 257 and CHR count 0 need 16 + 257 x 16384 + 0 x 8192 = 4210704" \
+  0 01 00 10 00 01 00 07 16400
+step "inspect: a longer count that is no power of two" inspected_marked \
+  "board mode: refused 8 (CountNoPowerOfTwo): PRG count 257, but board mode takes 1, 2, 4 and so on up to 2048" \
+  0 01 00 10 00 01 00 07 4210704
+step "inspect: a longer count that is taken" inspected_marked "board mode: accepted, with PRG RAM" 0 00 00 10 00 01 07 07 4194320
 step "inspect: where the modes part" says 0 "the modes part at event 6 (write A000=00):" inspect "$sample.trace"
 step "inspect: a truncated trace" says 1 \
   "'$work/truncated' begins as a trace and is malformed at byte 6: the image has 24592 bytes, but only 994 bytes are left" \

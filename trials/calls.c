@@ -6,7 +6,7 @@
  * biekkarul.h promises and, from an accepted load on, to the model: answers, RAMs and, after each call, every digit of
  * the state and all pages. A map of pages is kept as a caller keeps it, made anew only where an answer says so, and
  * must stay the whole one; reads and writes by the calls must be those of its pages. Where the input has put other bytes
- * into the state and they are still a board's, the model goes on from the digits that they are read into.
+ * into the state, the model says whether they are still a board's, and if so goes on from their digits.
  */
 #include "lent.h"
 
@@ -22,6 +22,9 @@ uint16_t shipped_pages(const uint8_t *, size_t, uint8_t, uint32_t *, size_t, uin
 uint32_t shipped_write_moved(uint8_t *, size_t, const uint8_t *, size_t, uint8_t *, size_t, uint8_t *, size_t, uint16_t,
                              uint8_t);
 
+/* An input has before it the mode and the choice of a length. */
+const size_t header_place = 2;
+
 /* One set of lent buffers. */
 struct board {
     uint8_t *state, *prg_ram, *chr_ram;
@@ -32,6 +35,7 @@ struct board {
 
 static uint8_t *image;
 static size_t image_length, state_length, prg_length, chr_length;
+static size_t filled = HEADER_LENGTH; /* as much of the image's room holds its data */
 static struct board first, second, before;
 
 static void make_board(struct board *b) {
@@ -42,11 +46,10 @@ static void make_board(struct board *b) {
 }
 
 int LLVMFuzzerInitialize(int *count, char ***words) {
-    size_t i;
     (void)count, (void)words;
     image = malloc(MOST_IMAGE);
     MUST(image);
-    for (i = 0; i < MOST_IMAGE; i++) image[i] = data_at(i);
+    ASAN_POISON_MEMORY_REGION(image, MOST_IMAGE);
     make_board(&first);
     make_board(&second);
     make_board(&before);
@@ -92,13 +95,13 @@ static size_t near_length(unsigned choice, size_t asked) {
 
 /* Refusals that a call may answer with, as bits. */
 #define BIT(n) (1ul << (n))
-#define LOAD_REFUSALS (BIT(9) | BIT(10) | BIT(3) | BIT(4) | BIT(5) | BIT(6) | BIT(7) | BIT(8))
+#define LOAD_REFUSALS (BIT(9) | BIT(10) | BIT(3) | BIT(4) | BIT(5) | BIT(16) | BIT(6) | BIT(7) | BIT(8))
 #define READ_REFUSALS (BIT(9) | BIT(10) | BIT(11) | BIT(13))
 #define WRITE_REFUSALS (BIT(9) | BIT(10) | BIT(12) | BIT(13) | BIT(14))
 
 static int refused(unsigned answer, unsigned long numbers) {
     if (!BIEKKARUL_IS_REFUSED(answer)) return 0;
-    MUST(BIEKKARUL_REFUSAL(answer) < 16 && numbers & BIT(BIEKKARUL_REFUSAL(answer)));
+    MUST(BIEKKARUL_REFUSAL(answer) <= 16 && numbers & BIT(BIEKKARUL_REFUSAL(answer)));
     return 1;
 }
 
@@ -118,9 +121,15 @@ static void rams_as_the_model_has(void) {
 
 #define DIGITS_ROOM (BIEKKARUL_DIGITS + GUARD)
 
+/* What the model makes of the state's bytes: 40 digits, or 10. */
+static unsigned wanted_of_digits(uint64_t *wanted, size_t length) {
+    if (state_length != BIEKKARUL_STATE_LENGTH || length != BIEKKARUL_DIGITS) return REFUSED(10);
+    return model_judges(first.state, wanted) ? 0 : REFUSED(10);
+}
+
 /* Reads the state into so many digits: 40 are written, or none where it is refused, and the room around stays. */
 static unsigned read_digits(uint64_t *digits, size_t length) {
-    uint64_t shipped[DIGITS_ROOM], held[DIGITS_ROOM];
+    uint64_t shipped[DIGITS_ROOM], held[DIGITS_ROOM], wanted[BIEKKARUL_DIGITS];
     size_t written;
     unsigned answer;
     memset(held, 0x5A, sizeof held);
@@ -131,12 +140,9 @@ static unsigned read_digits(uint64_t *digits, size_t length) {
     ASAN_UNPOISON_MEMORY_REGION(digits, sizeof held);
     MUST(answer == shipped_digits(second.state, state_length, shipped, length));
     MUST(!memcmp(digits, shipped, sizeof shipped));
-    if (refused(answer, BIT(10))) {
-        written = 0;
-    } else {
-        MUST(answer == 0 && state_length == BIEKKARUL_STATE_LENGTH && length == BIEKKARUL_DIGITS);
-        written = BIEKKARUL_DIGITS;
-    }
+    MUST(answer == wanted_of_digits(wanted, length));
+    written = answer == 0 ? BIEKKARUL_DIGITS : 0;
+    MUST(!memcmp(digits, wanted, written * sizeof *wanted));
     MUST(!memcmp(digits + written, held + written, (DIGITS_ROOM - written) * sizeof *held));
     return answer;
 }
@@ -449,28 +455,48 @@ static void one_call(struct input *in) {
 
 /* The choice of a length that stands for a wrong magic instead, with the right length. */
 #define BAD_MAGIC 239
+/* The one that stands for the length that the counts have without what NES 2.0 adds. */
+#define AS_INES 238
 
 /* Bytes of the image that are promised and not lent: none, but where the trial itself is tried (fuzz.sh). */
 #ifndef LENT_SHORT
 #define LENT_SHORT 0
 #endif
 
+/* The length that the header asks for in this mode; where it says more blocks than any load takes, the one of iNES. */
+static size_t asked_length(unsigned choice, unsigned mode) {
+    unsigned board_mode = mode == BIEKKARUL_BOARD, prg = prg_of(image, board_mode), chr = chr_of(image, board_mode);
+    if (choice == AS_INES || prg > MOST_BLOCKS || chr > MOST_BLOCKS) return needed_length(image[4], image[5]);
+    return needed_length(prg, chr);
+}
+
+static void fill_image(size_t length) {
+    for (; filled < length; filled++) image[filled] = data_at(filled);
+}
+
+static size_t greater(size_t a, size_t b) { return a > b ? a : b; }
+
 /* The header; the counts say how long the image is, but for what the input adds or takes. */
-static void lend_image(struct input *in) {
+static void lend_image(struct input *in, unsigned mode) {
     static const uint8_t magic[4] = {0x4E, 0x45, 0x53, 0x1A};
     unsigned i, choice = take(in);
-    ASAN_UNPOISON_MEMORY_REGION(image, MOST_IMAGE);
+    size_t room = greater(image_length, HEADER_LENGTH); /* beyond what was lent before all is forbidden still */
+    lend(image, room, room);
     memcpy(image, magic, sizeof magic);
     if (choice == BAD_MAGIC) image[take(in) & 3] ^= 1;
     for (i = 4; i < HEADER_LENGTH; i++) image[i] = (uint8_t)take(in);
-    image_length = near_length(choice, HEADER_LENGTH + PRG_BLOCK * (size_t)image[4] + CHR_BLOCK * (size_t)image[5]);
-    lend(image, MOST_IMAGE, image_length - LENT_SHORT);
+    image_length = near_length(choice, asked_length(choice, mode));
+    MUST(image_length <= MOST_IMAGE);
+    room = greater(room, image_length);
+    lend(image, room, room);
+    fill_image(image_length);
+    lend(image, room, image_length - LENT_SHORT);
 }
 
 int LLVMFuzzerTestOneInput(const uint8_t *bytes, size_t length) {
     struct input in = {bytes, length};
-    unsigned mode = take(&in);
-    lend_image(&in);
+    unsigned mode_byte = take(&in), mode = mode_byte < 250 ? mode_byte & 1 : mode_byte;
+    lend_image(&in, mode);
     state_length = near_length(take(&in), BIEKKARUL_STATE_LENGTH);
     prg_length = near_length(take(&in), BIEKKARUL_RAM_LENGTH);
     chr_length = near_length(take(&in), BIEKKARUL_RAM_LENGTH);
@@ -479,7 +505,7 @@ int LLVMFuzzerTestOneInput(const uint8_t *bytes, size_t length) {
     start(&before);
     reached = 0;
     stale = turn = 0;
-    do_load(mode < 250 ? mode & 1 : mode);
+    do_load(mode);
     if (reached) digits_as_the_model_has();
     if (reached) map_as_the_calls_read();
     while (in.left > 0) one_call(&in);

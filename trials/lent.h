@@ -11,7 +11,9 @@
 #include <stdio.h>
 #include <stdlib.h>
 
-#define MOST_IMAGE (HEADER_LENGTH + 255u * PRG_BLOCK + 255u * CHR_BLOCK + 64u)
+/* The greatest image that a load takes, and a little more. */
+#define MOST_BLOCKS 2048u
+#define MOST_IMAGE (HEADER_LENGTH + MOST_BLOCKS * PRG_BLOCK + MOST_BLOCKS * CHR_BLOCK + 64u)
 #define GUARD 64u
 
 /* A fault ends the trial: the fuzzer keeps the input that led to it. */

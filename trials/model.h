@@ -1,7 +1,7 @@
 /*
- * The boards once more: document 01 read a second time and written plainly in C, with no eye to speed and none to the
- * library's code. The trials hold the library's answers, its states' digits and both RAMs to it, and so do the tests of the
- * wrapper for Rust (through play.c). Answers and digits are numbers as in biekkarul.h.
+ * The boards once more: document 01, and M-100 of document 02, read a second time and written plainly in C, with no eye to
+ * speed and none to the library's code. The trials hold the library's answers, its states and both RAMs to it, and so do
+ * the tests of the wrapper for Rust (through play.c). Answers and digits are numbers as in biekkarul.h.
  */
 #ifndef TRIALS_MODEL_H
 #define TRIALS_MODEL_H
@@ -21,6 +21,7 @@ enum mapper { NROM, MMC1, UXROM, CNROM, MMC3 };
 
 struct model {
     unsigned board_mode, mapper, nes2, prg, chr; /* counts of 16 KB and 8 KB */
+    unsigned prg_ram_there;                      /* M-100: "Without PRG RAM, which the board notes" */
     uint64_t image_length;
     unsigned header_mirroring, mirroring; /* letters */
     unsigned uxrom_bank, cnrom_bank;
@@ -30,23 +31,84 @@ struct model {
     uint8_t prg_ram[BIEKKARUL_RAM_LENGTH], chr_ram[BIEKKARUL_RAM_LENGTH];
 };
 
-static int is_power_of_two(unsigned n) { return n > 0 && n <= 128 && (n & (n - 1)) == 0; }
+/* "a list of the powers of two from 1 to 128", which goes on as far as M-100's counts do. */
+static int is_power_of_two(unsigned n) { return n > 0 && n <= 2048 && (n & (n - 1)) == 0; }
 
-static unsigned mapper_of(const uint8_t *image) { return (image[7] & 0xF0u) | image[6] >> 4; }
+static unsigned low(unsigned byte) { return byte & 15; }
+
+static unsigned high(unsigned byte) { return byte >> 4; }
 
 static int is_ines(const uint8_t *image) { return !memcmp(image, "NES\x1A", 4); }
 
-/* What a load answers, lengths of the lent buffers being right: "Order in load: 3, 4, 5, 6, 7, 8". */
+static int is_marked(const uint8_t *image) { return (image[7] & 0x0C) == 0x08; }
+
+/* M-100: "In board mode, where byte 7 marks NES 2.0". Every other image is read as iNES says, whatever bytes 8 to 15 are. */
+static int is_nes2(const uint8_t *image, unsigned board_mode) { return board_mode && is_marked(image); }
+
+/* A number of iNES, and what a nibble of NES 2.0 adds to it. */
+static unsigned extended(const uint8_t *image, unsigned board_mode, unsigned number, unsigned nibble) {
+    return is_nes2(image, board_mode) ? number + 256 * nibble : number;
+}
+
+static unsigned mapper_of(const uint8_t *image, unsigned board_mode) {
+    return extended(image, board_mode, (image[7] & 0xF0u) | image[6] >> 4, low(image[8]));
+}
+
+static unsigned prg_of(const uint8_t *image, unsigned board_mode) {
+    return extended(image, board_mode, image[4], low(image[9]));
+}
+
+static unsigned chr_of(const uint8_t *image, unsigned board_mode) {
+    return extended(image, board_mode, image[5], high(image[9]));
+}
+
+static int is_shift(unsigned nibble) { return nibble == 0 || nibble == 7; }
+
+/* "the two nibbles are both 0, or one is 0 and the other 7" */
+static int are_shifts(unsigned byte) {
+    return is_shift(low(byte)) && is_shift(high(byte)) && low(byte) * high(byte) == 0;
+}
+
+/* What refusal 16 is for, in an image of NES 2.0 with this count of CHR blocks. */
+static int has_what_is_not_taken(const uint8_t *image, unsigned chr) {
+    int submapper = high(image[8]) != 0;
+    int exponent = low(image[9]) == 15 || high(image[9]) == 15;
+    int other_prg_ram = !are_shifts(image[10]);
+    int other_chr_ram = !are_shifts(image[11]);
+    /* "CHR RAM is present exactly when the CHR count is 0, and byte 11 has to say the same" */
+    int says_otherwise = (chr == 0) != (image[11] != 0);
+    return submapper || exponent || other_prg_ram || other_chr_ram || says_otherwise;
+}
+
+static int is_not_taken(const uint8_t *image, unsigned board_mode) {
+    return is_nes2(image, board_mode) && has_what_is_not_taken(image, chr_of(image, board_mode));
+}
+
+static int is_bad_prg(unsigned mapper, unsigned prg) {
+    return prg == 0 || (prg > 2 && (mapper == NROM || mapper == CNROM));
+}
+
+static int are_no_powers(unsigned prg, unsigned chr) {
+    return !is_power_of_two(prg) || (chr != 0 && !is_power_of_two(chr));
+}
+
+static size_t needed_length(unsigned prg, unsigned chr) {
+    return HEADER_LENGTH + PRG_BLOCK * (size_t)prg + CHR_BLOCK * (size_t)chr;
+}
+
+/* What a load answers, lengths of the lent buffers being right: "Order in load: 3, 4, 5, 6, 7, 8", and 16 "after 5". */
 static unsigned load_answer(const uint8_t *image, size_t length, unsigned board_mode) {
-    unsigned prg, chr;
+    unsigned mapper, prg, chr;
     if (length < 16400 || !is_ines(image)) return REFUSED(3);
-    prg = image[4];
-    chr = image[5];
-    if (mapper_of(image) > 4) return REFUSED(4);
+    mapper = mapper_of(image, board_mode);
+    prg = prg_of(image, board_mode);
+    chr = chr_of(image, board_mode);
+    if (mapper > 4) return REFUSED(4);
     if (image[6] & 0x0C) return REFUSED(5);
-    if (prg == 0 || (prg > 2 && (mapper_of(image) == NROM || mapper_of(image) == CNROM))) return REFUSED(6);
-    if (length < HEADER_LENGTH + PRG_BLOCK * (size_t)prg + CHR_BLOCK * (size_t)chr) return REFUSED(7);
-    if (board_mode && (!is_power_of_two(prg) || (chr != 0 && !is_power_of_two(chr)))) return REFUSED(8);
+    if (is_not_taken(image, board_mode)) return REFUSED(16);
+    if (is_bad_prg(mapper, prg)) return REFUSED(6);
+    if (length < needed_length(prg, chr)) return REFUSED(7);
+    if (board_mode && are_no_powers(prg, chr)) return REFUSED(8);
     return 0;
 }
 
@@ -61,10 +123,11 @@ static inline unsigned refused_first(int rams_right, int state_right, int other_
 static void model_load(struct model *m, const uint8_t *image, size_t length, unsigned board_mode) {
     memset(m, 0, sizeof *m);
     m->board_mode = board_mode;
-    m->mapper = mapper_of(image);
-    m->nes2 = (image[7] & 0x0C) == 0x08;
-    m->prg = image[4];
-    m->chr = image[5];
+    m->mapper = mapper_of(image, board_mode);
+    m->nes2 = is_marked(image);
+    m->prg = prg_of(image, board_mode);
+    m->chr = chr_of(image, board_mode);
+    m->prg_ram_there = !is_nes2(image, board_mode) || image[10] != 0;
     m->image_length = length;
     m->header_mirroring = m->mirroring = image[6] & 1 ? BIEKKARUL_VERTICAL : BIEKKARUL_HORIZONTAL;
     if (m->mapper == MMC1) m->mmc1_prg_mode = 3;
@@ -149,7 +212,10 @@ static int no_such_place(const struct model *m, unsigned address) {
     return address < 0x8000 || (address < 0xC000 && m->prg == 1);
 }
 
-static int has_prg_ram(const struct model *m) { return m->mapper == MMC1 || m->mapper == MMC3; }
+/* Two boards show PRG RAM at 6000-7FFF, where the image says that there is any. */
+static int is_ram_board(const struct model *m) { return m->mapper == MMC1 || m->mapper == MMC3; }
+
+static int has_prg_ram(const struct model *m) { return m->prg_ram_there && is_ram_board(m); }
 
 static unsigned model_read(const struct model *m, const uint8_t *image, unsigned address) {
     unsigned bank, size;
@@ -356,6 +422,7 @@ static inline unsigned *field_of(struct model *m, unsigned digit) {
     case BIEKKARUL_DIGIT_MAPPER: return &m->mapper;
     case BIEKKARUL_DIGIT_MODE: return &m->board_mode;
     case BIEKKARUL_DIGIT_NES2: return &m->nes2;
+    case BIEKKARUL_DIGIT_PRG_RAM: return &m->prg_ram_there;
     case BIEKKARUL_DIGIT_PRG_COUNT: return &m->prg;
     case BIEKKARUL_DIGIT_CHR_COUNT: return &m->chr;
     case BIEKKARUL_DIGIT_UXROM_BANK: return &m->uxrom_bank;
@@ -384,7 +451,6 @@ static inline void model_digits(struct model *m, uint64_t *digits) {
     digits[BIEKKARUL_DIGIT_VERSION] = BIEKKARUL_STATE_VERSION;
     digits[BIEKKARUL_DIGIT_HEADER_MIRRORING] = mirroring_digit(m->header_mirroring);
     digits[BIEKKARUL_DIGIT_MIRRORING] = mirroring_digit(m->mirroring);
-    digits[BIEKKARUL_DIGIT_PRG_RAM] = 1;
     digits[BIEKKARUL_DIGIT_IMAGE_LENGTH] = m->image_length;
     /* the bits that have entered, from bit 4 down */
     digits[BIEKKARUL_DIGIT_MMC1_SERIAL_VALUE] = m->serial_bits << (5 - m->serial_count);
@@ -400,6 +466,93 @@ static inline void model_take_up(struct model *m, const uint64_t *digits) {
     m->mirroring = (unsigned)MIRRORINGS[digits[BIEKKARUL_DIGIT_MIRRORING]];
     m->image_length = digits[BIEKKARUL_DIGIT_IMAGE_LENGTH];
     m->serial_bits = (unsigned)digits[BIEKKARUL_DIGIT_MMC1_SERIAL_VALUE] >> (5 - m->serial_count);
+}
+
+/*
+ * The bytes of a state, from docs/ABI.md: five words of 64 bits, little-endian, each a row of digits, the first one lowest.
+ * Whether they are a board's is judged here from "State ranges" and M-100, without the library.
+ */
+static const unsigned digit_bits[5][13] = {
+    {8, 8, 1, 1, 2, 2, 2, 12, 12},
+    {64},
+    {8, 2, 3, 2, 2, 3, 5, 2, 1, 5, 5, 4},
+    {8, 8, 8, 8, 8, 8, 8, 8},
+    {8, 8, 3, 1, 1, 1, 1, 1, 1, 1},
+};
+
+static inline uint64_t word_at(const uint8_t *bytes) {
+    uint64_t word = 0;
+    unsigned k;
+    for (k = 8; k > 0; k--) word = word << 8 | bytes[k - 1];
+    return word;
+}
+
+/* Reads the digits; whether nothing stands above the last one of a word. */
+static inline int read_words(const uint8_t *state, uint64_t *digits) {
+    unsigned row, bits, k;
+    int nothing_above = 1;
+    for (row = 0; row < 5; row++) {
+        uint64_t word = word_at(state + 8 * row);
+        for (k = 0; (bits = digit_bits[row][k]) != 0; k++) {
+            *digits++ = bits == 64 ? word : word % (UINT64_C(1) << bits);
+            word = bits == 64 ? 0 : word >> bits;
+        }
+        nothing_above &= word == 0;
+    }
+    return nothing_above;
+}
+
+/* "Mapper, counts, length .. as a load could leave them", and PRG RAM, "which .. 10 covers". */
+static inline int is_loadable(const uint64_t *d) {
+    unsigned board_mode = d[BIEKKARUL_DIGIT_MODE] == BIEKKARUL_BOARD, ram = (unsigned)d[BIEKKARUL_DIGIT_PRG_RAM];
+    unsigned nes2 = board_mode && d[BIEKKARUL_DIGIT_NES2];
+    unsigned mapper = (unsigned)d[BIEKKARUL_DIGIT_MAPPER];
+    unsigned prg = (unsigned)d[BIEKKARUL_DIGIT_PRG_COUNT], chr = (unsigned)d[BIEKKARUL_DIGIT_CHR_COUNT];
+    if (mapper > 4 || is_bad_prg(mapper, prg)) return 0;
+    if (board_mode && are_no_powers(prg, chr)) return 0;
+    if (prg > 255 && !nes2) return 0;
+    if (chr > 255 && !nes2) return 0;
+    if (ram == 0 && !nes2) return 0;
+    return ram <= 1 && d[BIEKKARUL_DIGIT_IMAGE_LENGTH] >= needed_length(prg, chr);
+}
+
+/* "Current mirroring equals the header's, except in board mode: any of the four on MMC1, horizontal or vertical on MMC3" */
+static inline int is_mirrored(const uint64_t *d) {
+    uint64_t headers = d[BIEKKARUL_DIGIT_HEADER_MIRRORING], current = d[BIEKKARUL_DIGIT_MIRRORING];
+    int board_mode = d[BIEKKARUL_DIGIT_MODE] == BIEKKARUL_BOARD;
+    if (headers > 1) return 0;
+    if (board_mode && d[BIEKKARUL_DIGIT_MAPPER] == MMC1) return 1;
+    if (board_mode && d[BIEKKARUL_DIGIT_MAPPER] == MMC3) return current <= 1;
+    return current == headers;
+}
+
+/* Whether a digit of words 2 to 4 is this board's; the others hold their start value. */
+static inline int is_used_by(uint64_t mapper, unsigned digit) {
+    switch (mapper) {
+    case UXROM: return digit == BIEKKARUL_DIGIT_UXROM_BANK;
+    case CNROM: return digit == BIEKKARUL_DIGIT_CNROM_BANK;
+    case MMC1: return digit >= BIEKKARUL_DIGIT_MMC1_SERIAL_COUNT && digit <= BIEKKARUL_DIGIT_MMC1_PRG;
+    case MMC3: return digit >= BIEKKARUL_DIGIT_MMC3_R0 && digit <= BIEKKARUL_DIGIT_MMC3_RELOAD;
+    default: return 0;
+    }
+}
+
+/* "serial count 0-4, serial value .. a multiple of 2^(5 - count)"; "R0, R1 even; R6, R7 up to 63"; the others fit any digit. */
+static inline int are_registers(const uint64_t *d) {
+    unsigned k;
+    for (k = BIEKKARUL_DIGIT_UXROM_BANK; k < BIEKKARUL_DIGITS; k++)
+        if (!is_used_by(d[BIEKKARUL_DIGIT_MAPPER], k) && d[k] != (k == BIEKKARUL_DIGIT_RAM_ENABLED)) return 0;
+    if (d[BIEKKARUL_DIGIT_MMC1_SERIAL_COUNT] > 4) return 0;
+    if (d[BIEKKARUL_DIGIT_MMC1_SERIAL_VALUE] % (32u >> d[BIEKKARUL_DIGIT_MMC1_SERIAL_COUNT]) != 0) return 0;
+    if (d[BIEKKARUL_DIGIT_MMC3_R0] % 2 != 0 || d[BIEKKARUL_DIGIT_MMC3_R0 + 1] % 2 != 0) return 0;
+    return d[BIEKKARUL_DIGIT_MMC3_R7 - 1] <= 63 && d[BIEKKARUL_DIGIT_MMC3_R7] <= 63;
+}
+
+/* Whether the bytes of a state are a board's, and its digits. */
+static inline int model_judges(const uint8_t *state, uint64_t *digits) {
+    int nothing_above = read_words(state, digits);
+    return nothing_above && digits[BIEKKARUL_DIGIT_VERSION] == BIEKKARUL_STATE_VERSION && is_loadable(digits) &&
+           is_mirrored(digits) && are_registers(digits);
 }
 
 #endif

@@ -2,8 +2,10 @@
 
 # bytes HEX..: those bytes.
 bytes() {
-  local hex="$*"
-  printf '%b' "$(sed 's/../\\x&/g' <<<"${hex//[[:space:]]/}")"
+  local hex="$*" escaped= at
+  hex=${hex//[[:space:]]/}
+  for ((at = 0; at < ${#hex}; at += 2)); do escaped+="\\x${hex:at:2}"; done
+  printf '%b' "$escaped"
 }
 
 # history MAPPER READ WRITE CLOCK: calls that visit each register and each window of the board, as hex, banks, latch
@@ -11,7 +13,7 @@ bytes() {
 history() {
   local mapper=$1 read=$2 write=$3 clock=$4 address n
   serial() { # serial ADDRESS VALUE: five bits, least first
-    for n in 0 1 2 3 4; do echo "$write$1$(printf '%02X' $(($2 >> n & 1)))"; done
+    for n in 0 1 2 3 4; do echo "$write${1}0$(($2 >> n & 1))"; done
   }
   case $mapper in
   1)
@@ -85,6 +87,89 @@ seeds() {
   # an image lent a byte shorter than it was loaded, and a read of the image's last byte
   bytes 00 00 010100"${zeros:0:18}" 000000 408000 428000FF >"$1/seed-other-length"
   bytes 00 00 010100"${zeros:0:18}" 000000 001FFF >"$1/seed-last-byte"
+  nes2_board_seeds "$1" "$2"
+  nes2_load_seeds "$1" "$2"
+}
+
+# Images that byte 7 marks as NES 2.0 (M-100): byte 6's low nibble, bytes 4 and 5, then 8 to 11, as hex. First those that
+# board mode takes, of some boards at least: PRG RAM and none, on one side or the other, counts of 256 and 512.
+nes2_taken=(0:0202:00000700 0:0200:00000007 0:0101:00007000 0:0100:00007070 0:0200:00000070
+  0:0000:00010007 0:0002:00020700 0:0100:00100000)
+# Those that it refuses, with a limit or an order in each.
+nes2_refused=(
+  0:0101:01000700 0:0101:0F000700 0:0101:08000700 0:0101:11000700 # the mapper's extension, before a submapper
+  0:0101:10000700 0:0101:80000700 0:0101:F0000700                 # a submapper
+  0:0101:000F0700 0:0101:00F00700 0:0101:00FF0700 0:0101:000E0700 # exponents, and the nibble below them
+  0:0101:00007700 0:0101:00000800 0:0101:00008000 0:0101:00007100 # bytes 10 and 11 that hold no such shifts
+  0:0100:00000077 0:0100:00000008 0:0100:00000080 0:0100:00000017
+  0:0100:00000700 0:0101:00000707 0:0101:00000770                 # byte 11 against the count of CHR
+  4:0101:10000700 8:0101:000F0700 4:0100:00000000 8:0101:01000700 # 5 before 16, 4 before 5
+  0:0002:10000700 0:0002:00000707 0:0002:000F0700 0:0002:00000700 # 16 before 6, and 6
+  0:0300:00000000 0:0103:00000700 0:0300:00000007                 # 16 before 8, and 8
+)
+# Longer ones: byte 11 against 256 blocks of CHR, and counts of 257 and 768, for which 8 stands last.
+nes2_long=(0:0100:00100007 0:0101:00010700 0:0101:00100700 0:0100:00300000)
+
+# nes2_header MAPPER ROW MARK: bytes 4 to 15 of a row of those; bytes 12 to 15 change nothing.
+nes2_header() {
+  local row=$2
+  echo "${row:2:4}$1${row:0:1}$3${row:7}FF0180FE"
+}
+
+# note_spoils: byte 2 of the state as a board of NES 2.0 has it without PRG RAM, then as no board has it: a digit of 2 or 3,
+# no mark, house mode; between them as boards without the mark, and of house mode, have it. After each: a read and a write of
+# PRG RAM, and a clock.
+note_spoils() {
+  local byte
+  for byte in 43 03 83 C3 41 01 42 02 40 00 03; do echo "8602${byte}0060002260005B05"; done
+}
+
+# Headers of NES 2.0 in both modes, and states around what only they can say. What is played in no time has a name that
+# stands first, so that a fault that it shows is found at once.
+
+# nes2_board_seeds CALLS TRACES: boards that play.
+nes2_board_seeds() {
+  local mapper mode row calls events
+  for mapper in 0 1 2 3 4; do
+    calls=$(history "$mapper" 00 22 05) events=$(history "$mapper" 00 01 02)
+    for mode in 00 01; do
+      for row in "${nes2_taken[@]}"; do
+        bytes "$mode" 00 "$(nes2_header "$mapper" "$row" 08)" 000000 "$calls" >"$1/seed-nes2-$mapper-$mode-$row"
+        bytes 00 00 "$mode" "$(nes2_header "$mapper" "$row" 08)" "$events" >"$2/seed-nes2-$mapper-$mode-$row"
+      done
+      # with PRG RAM, and a byte in it
+      bytes "$mode" 00 "$(nes2_header "$mapper" 0:0202:00000700 08)" 000000 "0260005A$(note_spoils)" >"$1/nes2-note-$mapper-$mode"
+      # counts of 256, then as no board has them: without the mark, and in house mode
+      for row in 0:0000:00010707 0:0100:00100700; do
+        bytes "$mode" 00 "$(nes2_header "$mapper" "$row" 08)" 000000 05 860241 05 860242 05 860240 05 860243 05 >"$1/seed-nes2-count-$mapper-$mode-$row"
+      done
+    done
+  done
+  # 2,048 blocks of each kind; its name stands last, as to fill so long an image takes a while
+  bytes 01 00 "$(nes2_header 4 0:0000:00887000 08)" 000000 "$calls" >"$1/seed-the-greatest"
+}
+
+# nes2_load_seeds CALLS TRACES: loads, most of them refused.
+nes2_load_seeds() {
+  local mode row mark
+  for mode in 00 01; do
+    for row in "${nes2_refused[@]}"; do
+      bytes "$mode" 00 "$(nes2_header 4 "$row" 08)" 000000 006000 8701 8700 >"$1/nes2-load-$mode-$row"
+      bytes 00 00 "$mode" "$(nes2_header 4 "$row" 08)" 006000 >"$2/nes2-load-$mode-$row"
+    done
+    for row in "${nes2_long[@]}"; do
+      bytes "$mode" 00 "$(nes2_header 4 "$row" 08)" 000000 006000 8701 8700 >"$1/seed-nes2-long-$mode-$row"
+    done
+    for row in 0:0000:00010007 0:0002:00020700 0:0100:00100000 0:0101:00010700 0:0101:00E00700 0:0101:10010700; do # as long as iNES asks
+      bytes "$mode" EE "$(nes2_header 2 "$row" 08)" 000000 008000 >"$1/nes2-load-short-$mode-$row"
+    done
+    for mark in 00 04 0C; do # no mark: the same bytes say nothing
+      bytes "$mode" 00 "$(nes2_header 4 0:0101:11FF0077 "$mark")" 000000 0260005A 006000 >"$1/nes2-load-unmarked-$mode-$mark"
+      bytes 00 00 "$mode" "$(nes2_header 4 0:0101:11FF0077 "$mark")" 0160005A 006000 >"$2/nes2-load-unmarked-$mode-$mark"
+    done
+  done
+  bytes 01 00 "$(nes2_header F 0:0101:10000700 F8)" 000000 >"$1/nes2-load-mapper-255"
+  bytes 01 00 "$(nes2_header 5 0:0101:10000700 08)" 000000 >"$1/nes2-load-mapper-5"
 }
 
 # shipped_beside LIBRARY TO: the shipped library with the names that calls.c has for it.

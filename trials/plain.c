@@ -9,9 +9,12 @@
 
 int LLVMFuzzerInitialize(int *count, char ***words);
 int LLVMFuzzerTestOneInput(const uint8_t *bytes, size_t length);
+/* Where bytes 4 to 15 of the image's header stand in an input; each trial says it. */
+extern const size_t header_place;
 
 #define MOST_INPUT 4200u
 #define MOST_MORE 300u
+#define HEADER_REST 12u
 
 static uint64_t chance = 2026;
 
@@ -44,9 +47,36 @@ static uint8_t any_byte(void) {
     }
 }
 
-/* A few bytes of an input changed, and some calls more. */
+/* Two nibbles at a limit of what NES 2.0 says by them; most often none. */
+static uint8_t any_nibbles(void) {
+    static const uint8_t limits[] = {0, 0, 0, 0, 0, 1, 8, 14, 15};
+    return (uint8_t)(limits[below(sizeof limits)] << 4 | limits[below(sizeof limits)]);
+}
+
+static uint8_t any_shifts(void) {
+    static const uint8_t limits[] = {0x00, 0x07, 0x70, 0x77, 0x08, 0x80};
+    return limits[below(sizeof limits)];
+}
+
+/*
+ * Makes bytes 4 to 15 those of NES 2.0 at its limits (M-100). So that many are taken, a count that is extended is a power of
+ * two in half of the draws, and byte 11 says mostly what the CHR count does.
+ */
+static void mark_header(uint8_t *from_byte_4) {
+    uint8_t *prg = from_byte_4, *chr = from_byte_4 + 1, *flags = from_byte_4 + 3;
+    flags[0] = (uint8_t)((flags[0] & 0xF3) | 0x08);
+    flags[1] = below(4) ? 0 : any_nibbles();
+    flags[2] = any_nibbles();
+    if (flags[2] & 0x0F && below(2)) *prg = 0;
+    if (flags[2] & 0xF0 && below(2)) *chr = 0;
+    flags[3] = any_shifts();
+    flags[4] = below(4) == 0 ? any_shifts() : *chr || flags[2] & 0xF0 ? 0x00 : below(2) ? 0x07 : 0x70;
+}
+
+/* A few bytes of an input changed, its header in an eighth of the draws one of NES 2.0, and some calls more. */
 static size_t changed_input(uint8_t *bytes, size_t length) {
     unsigned changes = below(6), more = below(MOST_MORE);
+    if (below(8) == 0 && length >= header_place + HEADER_REST) mark_header(bytes + header_place);
     while (changes-- > 0 && length > 0) {
         unsigned place = below((unsigned)length);
         bytes[place] = any_byte();

@@ -8,7 +8,7 @@
 
 #include <stdio.h>
 
-#define MOST_INPUT (1u << 24)
+#define MOST_INPUT (1u << 26) /* the greatest image that a board takes has 50,331,664 bytes */
 #define CALL_LENGTH 4u
 
 static uint8_t input[MOST_INPUT];

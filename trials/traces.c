@@ -14,6 +14,9 @@
 
 int tracerun_main(void);
 
+/* An input that describes a trace has before it the form, the choice of what is spoilt and the mode. */
+const size_t header_place = 3;
+
 static uint8_t trace[MOST_TRACE], said[MOST_TEXT];
 static char wanted[MOST_TEXT];
 static size_t trace_length, trace_read, said_length, wanted_length;

@@ -16,7 +16,7 @@ use std::sync::Arc;
 use std::thread;
 
 use biekkarul::trace::{Answer, Event};
-use biekkarul::{Board, Mode, Refusal, Snapshot, SnapshotError};
+use biekkarul::{Board, Mode, Refusal, Snapshot, SnapshotError, RAM_LENGTH};
 
 const RUNS: usize = 64;
 const THREADS: usize = 8;
@@ -34,13 +34,15 @@ usage: shop
 status: 0 all the same, 1 not, 2 not told
 ";
 
-/// The header's byte 6 and counts of an MMC3, an MMC1, a UxROM, a CNROM and an NROM game.
-const GAMES: [(u8, u8, u8); 5] = [
-    (0x41, 4, 2),
-    (0x10, 4, 0),
-    (0x20, 4, 0),
-    (0x31, 2, 4),
-    (0x00, 2, 0),
+/// Bytes 4 to 11 of the header of an MMC3, an MMC1, a UxROM, a CNROM and an NROM game; and of an MMC3 game that is
+/// marked NES 2.0, with CHR RAM and, in board mode, no PRG RAM.
+const GAMES: [[u8; 8]; 6] = [
+    [4, 2, 0x41, 0x00, 0, 0, 0x00, 0x00],
+    [4, 0, 0x10, 0x00, 0, 0, 0x00, 0x00],
+    [4, 0, 0x20, 0x00, 0, 0, 0x00, 0x00],
+    [2, 4, 0x31, 0x00, 0, 0, 0x00, 0x00],
+    [2, 0, 0x00, 0x00, 0, 0, 0x00, 0x00],
+    [4, 0, 0x40, 0x08, 0, 0, 0x00, 0x07],
 ];
 
 /// What the shop sells: an image, shared by all its boards, and the mode that it runs in for good.
@@ -134,17 +136,17 @@ fn titles() -> Vec<Title> {
     GAMES
         .iter()
         .flat_map(|game| Mode::ALL.map(|mode| (game, mode)))
-        .map(|(&(byte6, prg, chr), mode)| Title {
-            image: image(byte6, prg, chr).into(),
+        .map(|(fields, mode)| Title {
+            image: image(fields).into(),
             mode,
         })
         .collect()
 }
 
-fn image(byte6: u8, prg: u8, chr: u8) -> Vec<u8> {
-    let mut image = vec![0x4E, 0x45, 0x53, 0x1A, prg, chr, byte6];
+fn image(fields: &[u8; 8]) -> Vec<u8> {
+    let mut image = [&b"NES\x1A"[..], fields].concat();
     image.resize(16, 0);
-    let length = usize::from(prg) * 16_384 + usize::from(chr) * 8_192;
+    let length = usize::from(fields[0]) * 16_384 + usize::from(fields[1]) * 8_192;
     image.extend((0..length).map(|place| (place * 31 + place / 1_024 * 7) as u8));
     image
 }
@@ -231,9 +233,12 @@ fn take_up(
     mix_ups_are_refused(titles, submission.title, &snapshot)
 }
 
-/// Moves a bank where the board has one, and a byte that is seen at the end where it has none.
+/// Moves a bank where the board has one, and bytes that are seen at the end where it has none: two of them, since a
+/// run may write over one.
 fn spoil(board: &mut Board<Arc<[u8]>>) {
-    board.prg_ram_mut()[0] ^= 0xFF;
+    for place in [0, RAM_LENGTH - 1] {
+        board.prg_ram_mut()[place] ^= 0xFF;
+    }
     let _ = board.write(0x8000, 1);
 }
 

@@ -70,8 +70,8 @@ impl<I: AsRef<[u8]>> Board<I> {
     ///
     /// # Errors
     ///
-    /// The first that applies of 3, 4, 5, 6, 7, and in board mode 8. To keep an image that is refused,
-    /// lend it.
+    /// The first that applies of 3, 4, 5, 6, 7, and in board mode 8; there 16, between 5 and 6, is for an
+    /// image that is marked NES 2.0. To keep an image that is refused, lend it.
     ///
     /// # Panics
     ///
@@ -495,7 +495,7 @@ impl<I> Board<I> {
         self.small(Digit::Mapper)
     }
 
-    /// Whether the header marks NES 2.0; the mark changes nothing.
+    /// Whether the header marks NES 2.0. Board mode reads such a header so; house mode only records it.
     #[must_use]
     pub fn is_nes2(&self) -> bool {
         self.digits()[Digit::Nes2] == 1
@@ -528,19 +528,47 @@ impl<I> Board<I> {
         self.last_notice.unwrap_or_else(|| self.header_mirroring())
     }
 
-    /// The count of 16,384-byte PRG blocks.
+    /// The count of 16,384-byte PRG blocks, up to 255, or up to 2,048 with NES 2.0 in board mode.
     #[must_use]
     pub fn prg_count(&self) -> u16 {
         self.small(Digit::PrgCount)
     }
 
-    /// The count of 8,192-byte CHR blocks; 0 means CHR RAM.
+    /// The count of 8,192-byte CHR blocks, up to 255, or up to 2,048 with NES 2.0 in board mode; 0 means CHR
+    /// RAM.
     #[must_use]
     pub fn chr_count(&self) -> u16 {
         self.small(Digit::ChrCount)
     }
 
-    /// PRG RAM: what a game saves.
+    /// Whether the cartridge has PRG RAM. Only an NES 2.0 header in board mode can say that it has none: then
+    /// 6000-7FFF reads 0 and ignores writes, and what is put into [`prg_ram_mut`](Board::prg_ram_mut) is not
+    /// seen. House mode, and every image without the mark, always has it; NROM, UxROM and CNROM show none at
+    /// 6000-7FFF either way.
+    ///
+    /// ```
+    /// use biekkarul::{Board, Mode, Refusal};
+    ///
+    /// // MMC1, marked NES 2.0; byte 10 is 00: no PRG RAM; byte 11 is 07: 8,192 bytes of CHR RAM
+    /// let mut image = b"NES\x1A\x01\x00\x10\x08\0\0\x00\x07\0\0\0\0".to_vec();
+    /// image.resize(16 + 16_384, 0);
+    /// for (mode, has_prg_ram, answer) in [(Mode::Board, false, 0), (Mode::House, true, 0x2A)] {
+    ///     let mut board = Board::load(&image[..], mode)?;
+    ///     board.write(0x6000, 0x2A)?;
+    ///     assert_eq!((board.has_prg_ram(), board.read(0x6000)), (has_prg_ram, Ok(answer)));
+    /// }
+    ///
+    /// image[11] = 0x00; // no CHR RAM either, and no CHR ROM
+    /// assert_eq!(Board::load(&image[..], Mode::Board).unwrap_err(), Refusal::Nes2NotTaken);
+    /// # Ok::<(), Refusal>(())
+    /// ```
+    #[must_use]
+    pub fn has_prg_ram(&self) -> bool {
+        self.digits().has_prg_ram()
+    }
+
+    /// PRG RAM: what a game saves. It is kept here also where the cartridge
+    /// [has none](Board::has_prg_ram), and then holds what it was given.
     #[must_use]
     pub fn prg_ram(&self) -> &[u8; RAM_LENGTH] {
         self.memory.prg_ram()
@@ -598,6 +626,8 @@ impl<I> fmt::Debug for Board<I> {
             .field("header_mirroring", &self.header_mirroring())
             .field("prg_count", &self.prg_count())
             .field("chr_count", &self.chr_count())
+            .field("is_nes2", &self.is_nes2())
+            .field("has_prg_ram", &self.has_prg_ram())
             .field("screens", &self.screens())
             .field("registers", &self.registers())
             .finish_non_exhaustive()

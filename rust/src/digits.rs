@@ -19,17 +19,17 @@ pub enum Digit {
     Mapper,
     /// 0 house, 1 board.
     Mode,
-    /// The header's NES 2.0 mark.
+    /// The header's NES 2.0 mark, which board mode goes by.
     Nes2,
     /// 0 horizontal, 1 vertical.
     HeaderMirroring,
     /// 0 horizontal, 1 vertical, 2 upper screen, 3 lower screen.
     Mirroring,
-    /// 1: there are 8 KB of PRG RAM.
+    /// 1: there are 8 KB of PRG RAM. 0: there is none, as only NES 2.0 in board mode can say.
     PrgRam,
-    /// The count of 16,384-byte PRG blocks.
+    /// The count of 16,384-byte PRG blocks; above 255 only with NES 2.0 in board mode.
     PrgCount,
-    /// The count of 8,192-byte CHR blocks.
+    /// The count of 8,192-byte CHR blocks; above 255 only with NES 2.0 in board mode.
     ChrCount,
     /// The length of the image that was loaded.
     ImageLength,
@@ -135,6 +135,12 @@ impl Digits {
     #[must_use]
     pub fn mode(&self) -> Mode {
         Mode::of_digit(self[Digit::Mode])
+    }
+
+    /// Whether the cartridge has PRG RAM.
+    #[must_use]
+    pub fn has_prg_ram(&self) -> bool {
+        self[Digit::PrgRam] == 1
     }
 
     pub(crate) fn header_mirroring(&self) -> Mirroring {

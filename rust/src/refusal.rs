@@ -25,7 +25,7 @@ pub enum Refusal {
     HeaderNotInes = 2,
     /// Load: fewer than 16,400 bytes, or bytes 0-3 wrong.
     ImageNotInes = 3,
-    /// Load: a mapper above 4.
+    /// Load: a mapper above 4; in board mode NES 2.0's longer number is judged.
     MapperNotTaken = 4,
     /// Load: byte 6 has bit 2 or bit 3.
     TrainerOrFourScreen = 5,
@@ -51,6 +51,9 @@ pub enum Refusal {
     IrqPending = 14,
     /// Trace: malformed.
     TraceMalformed = 15,
+    /// Load in board mode of an image that is marked NES 2.0: a submapper, a count in exponent form, a RAM of
+    /// another size than 8,192 bytes, or CHR RAM beside CHR ROM or missing without it.
+    Nes2NotTaken = 16,
 }
 
 impl Refusal {
@@ -71,6 +74,7 @@ impl Refusal {
         Refusal::NoSuchPlace,
         Refusal::IrqPending,
         Refusal::TraceMalformed,
+        Refusal::Nes2NotTaken,
     ];
 
     /// The refusal of this number, if there is one.
@@ -92,6 +96,7 @@ impl Refusal {
             13 => Some(Refusal::NoSuchPlace),
             14 => Some(Refusal::IrqPending),
             15 => Some(Refusal::TraceMalformed),
+            16 => Some(Refusal::Nes2NotTaken),
             _ => None,
         }
     }
@@ -121,6 +126,7 @@ impl Refusal {
             Refusal::NoSuchPlace => "NoSuchPlace",
             Refusal::IrqPending => "IrqPending",
             Refusal::TraceMalformed => "TraceMalformed",
+            Refusal::Nes2NotTaken => "Nes2NotTaken",
         }
     }
 
@@ -147,6 +153,9 @@ impl Refusal {
             Refusal::NoSuchPlace => "the CNROM board has nothing at this address",
             Refusal::IrqPending => "the IRQ is disabled while its counter is 0 or 1",
             Refusal::TraceMalformed => "the trace is malformed",
+            Refusal::Nes2NotTaken => {
+                "the NES 2.0 header has a submapper, a count in exponent form or RAM that is not taken"
+            }
         }
     }
 }
@@ -196,7 +205,7 @@ mod tests {
                 .find(|refusal| u16::from(refusal.number()) == number);
             assert_eq!(Refusal::from_number(number), wanted.copied(), "{number}");
         }
-        assert_eq!(Refusal::ALL.len(), 15);
+        assert_eq!(Refusal::ALL.len(), 16);
     }
 
     #[test]
@@ -215,6 +224,7 @@ mod tests {
         assert_eq!(accepted(0), Ok(0));
         assert_eq!(accepted(255), Ok(255));
         assert_eq!(accepted(256 + 14), Err(Refusal::IrqPending));
+        assert_eq!(accepted(256 + 16), Err(Refusal::Nes2NotTaken));
     }
 
     #[test]

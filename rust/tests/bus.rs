@@ -9,8 +9,8 @@ use std::sync::Arc;
 use std::thread;
 
 use biekkarul::bus::BusBoard;
-use biekkarul::{Mirroring, Mode, Refusal, SnapshotError};
-use common::{data, kept, load, MMC1, MMC3, UXROM};
+use biekkarul::{Board, Mirroring, Mode, Refusal, SnapshotError, RAM_LENGTH};
+use common::{data, kept, load, marked, BOTH_MODES, MMC1, MMC3, NO_RAM, UXROM};
 
 /// A cartridge on the bus, and the notices it has given.
 fn on_bus(byte6: u8, prg: u8, chr: u8, mode: Mode) -> (BusBoard, Rc<RefCell<Vec<Mirroring>>>) {
@@ -39,6 +39,26 @@ fn answers_are_the_boards() {
     }
     assert!(kept(cartridge.board()) == kept(&board));
     assert_eq!(cartridge.refusal(), None);
+}
+
+/// Without PRG RAM, as an NES 2.0 image says in board mode, 6000-7FFF reads 0 and takes no byte.
+#[test]
+fn no_prg_ram_on_the_bus() {
+    for byte6 in [MMC1, MMC3] {
+        for mode in BOTH_MODES {
+            let mut board = Board::load(marked(byte6, 1, 0, NO_RAM), mode).unwrap();
+            board.prg_ram_mut().fill(0x55);
+            let (read, last) = match mode {
+                Mode::Board => (0, 0x55),
+                Mode::House => (0x66, 0x66),
+            };
+            let mut cartridge = BusBoard::new(board);
+            cartridge.write8(0x66, 0x7FFF);
+            assert_eq!(cartridge.read8(0x7FFF), read);
+            assert_eq!(cartridge.board().prg_ram()[RAM_LENGTH - 1], last);
+            assert_eq!(cartridge.refusal(), None);
+        }
+    }
 }
 
 #[test]

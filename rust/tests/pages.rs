@@ -9,8 +9,9 @@ use std::thread;
 
 use biekkarul::{Board, Digit, Digits, Mode, Moved, Page, Refusal, PAGES, PAGE_LENGTH, RAM_LENGTH};
 use common::reading::{address, byte, expected, history, make, Call, Expected, READ, WRITE};
-use common::{data, image, kept, load, serial, Numbers};
-use common::{BOTH_MODES, CNROM, MMC1, MMC3, NROM, PRG_BLOCK, UXROM};
+use common::{data, image, kept, load, marked, serial, Numbers};
+use common::{BATTERY_RAM_8K, BOTH_MODES, HEADER, NO_RAM, PRG_BLOCK, RAM_8K};
+use common::{CNROM, MMC1, MMC3, NROM, UXROM};
 
 /// Byte 6 and the counts: CHR RAM and CHR ROM, one PRG block and more, and fewer banks than registers can say.
 const CARTRIDGES: [(u8, u8, u8); 13] = [
@@ -29,18 +30,23 @@ const CARTRIDGES: [(u8, u8, u8); 13] = [
     (MMC3, 32, 32),
 ];
 
+/// Of cartridges that are marked NES 2.0, without PRG RAM in board mode.
+const MARKED: [(u8, usize, usize); 3] = [(MMC1, 4, 0), (MMC3, 4, 2), (CNROM, 2, 4)];
+
 /// Every cartridge in both modes.
 fn images() -> impl Iterator<Item = (Vec<u8>, Mode)> {
-    CARTRIDGES.iter().flat_map(|&(byte6, prg, chr)| {
-        BOTH_MODES
-            .iter()
-            .map(move |&mode| (image(byte6, prg, chr), mode))
-    })
+    let ines = CARTRIDGES
+        .iter()
+        .map(|&(byte6, prg, chr)| image(byte6, prg, chr));
+    let nes2 = MARKED
+        .iter()
+        .map(|&(byte6, prg, chr)| marked(byte6, prg, chr, NO_RAM));
+    ines.chain(nes2)
+        .flat_map(|bytes| BOTH_MODES.map(|mode| (bytes.clone(), mode)))
 }
 
 fn name(bytes: &[u8], mode: Mode) -> String {
-    let (byte6, prg, chr) = (bytes[6], bytes[4], bytes[5]);
-    format!("byte 6 {byte6:02X}, PRG {prg}, CHR {chr}, {mode:?}")
+    format!("header {:02X?}, {mode:?}", &bytes[..HEADER])
 }
 
 fn as_expected(board: &Board<&[u8]>, expected: &Expected, name: &str) {
@@ -321,6 +327,37 @@ fn pages_that_were_learnt_do_not_show() {
     assert_eq!(used, fresh);
     assert_eq!(format!("{used:?}"), format!("{fresh:?}"));
     assert!(used.snapshot() == fresh.snapshot());
+}
+
+/// Pages 24 to 31 are those of 6000-7FFF.
+#[test]
+fn no_page_of_prg_ram_where_there_is_none() {
+    let of_prg_ram: Vec<Page> = (0..8)
+        .map(|page| Page::PrgRam(page * PAGE_LENGTH))
+        .collect();
+    for byte6 in [MMC1, MMC3] {
+        for (byte10, mode, wanted) in [
+            (NO_RAM, Mode::Board, &[Page::Nowhere; 8][..]),
+            (RAM_8K, Mode::Board, &of_prg_ram),
+            (BATTERY_RAM_8K, Mode::Board, &of_prg_ram),
+            (NO_RAM, Mode::House, &of_prg_ram),
+        ] {
+            let board = Board::load(marked(byte6, 2, 1, byte10), mode).unwrap();
+            assert_eq!(board.read_pages()[24..32], *wanted);
+            assert_eq!(board.write_pages()[24..32], *wanted);
+        }
+    }
+}
+
+/// Offsets of more than 22 bits: 512 PRG blocks come before CHR.
+#[test]
+fn pages_far_in_the_image() {
+    let board = Board::load(marked(MMC1, 512, 1, NO_RAM), Mode::Board).unwrap();
+    let pages = board.read_pages();
+    assert_eq!(pages[0], Page::Image(HEADER + 512 * PRG_BLOCK));
+    assert_eq!(pages[48], Page::Image(HEADER + 511 * PRG_BLOCK));
+    assert_eq!(board.read(0x0000), Ok(data(512 * PRG_BLOCK)));
+    assert_eq!(board.read(0xFFFF), Ok(data(512 * PRG_BLOCK - 1)));
 }
 
 /// A write to nowhere leaves zeros there, on every board.

@@ -6,7 +6,8 @@ use std::cell::Cell;
 
 use biekkarul::{Board, Mirroring, Mode, Refusal, Registers, RAM_LENGTH};
 use common::{
-    image, kept, load, serial, Numbers, BOTH_MODES, CNROM, MMC1, MMC3, NROM, UXROM, VERTICAL,
+    image, kept, load, marked, serial, Numbers, BOTH_MODES, CNROM, MMC1, MMC3, NO_RAM, NROM, UXROM,
+    VERTICAL,
 };
 
 #[test]
@@ -38,6 +39,17 @@ fn registers_as_loaded_prg_ram_kept_chr_ram_cleared() {
             assert_eq!(board, fresh);
         }
     }
+}
+
+/// A board without PRG RAM has none after a power cycle either; the bytes that were put there stay, unseen.
+#[test]
+fn no_prg_ram_before_and_after() {
+    let mut board = Board::load(marked(MMC3, 2, 0, NO_RAM), Mode::Board).unwrap();
+    board.prg_ram_mut().fill(0x77);
+    board.write(0x8000, 6).unwrap();
+    board.power_cycle().unwrap();
+    assert!(!board.has_prg_ram() && board.prg_ram() == &[0x77; RAM_LENGTH]);
+    assert_eq!(board.read(0x6000), Ok(0));
 }
 
 /// The screens go back to the header's, also in house mode, whose state never says where they are.

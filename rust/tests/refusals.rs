@@ -6,7 +6,8 @@ use std::cell::Cell;
 use std::sync::Arc;
 
 use biekkarul::{Board, Mirroring, Mode, Refusal};
-use common::{data, image, kept, load, BOTH_MODES, CNROM, MMC1, MMC3, NROM, PRG_BLOCK, UXROM};
+use common::{data, image, kept, load, marked, BOTH_MODES, NO_RAM, PRG_BLOCK, RAM_8K};
+use common::{CNROM, MMC1, MMC3, NROM, UXROM};
 
 /// Gives both RAMs and some registers bytes that a slip would show in.
 fn stir(board: &mut Board) {
@@ -57,6 +58,46 @@ fn the_loads_order() {
     );
     expect(&|bytes| bytes[4] = 2, 0, 8);
     expect(&|bytes| bytes[5] = 0, 0, 8);
+    expect(&|_| (), 0, 0);
+}
+
+/// The same with NES 2.0: 16 stands behind 5 and before 6, in board mode only.
+#[test]
+fn the_loads_order_under_the_mark() {
+    let mut bytes = marked(NROM, 3, 3, RAM_8K);
+    bytes.truncate(16_400);
+    for (place, byte) in [
+        (0, 0),
+        (6, 0x0C),
+        (8, 0x11),
+        (9, 0xFF),
+        (10, 0x77),
+        (11, 0x77),
+    ] {
+        bytes[place] = byte;
+    }
+    let mut expect = |change: &dyn Fn(&mut Vec<u8>), house: u8, board: u8| {
+        let number = |mode| Board::load(&bytes[..], mode).map_or_else(|r| r.number(), |_| 0);
+        assert_eq!((number(Mode::House), number(Mode::Board)), (house, board));
+        change(&mut bytes);
+    };
+    expect(&|bytes| bytes[0] = 0x4E, 3, 3);
+    expect(&|bytes| bytes[8] = 0x10, 5, 4);
+    expect(&|bytes| bytes[6] = 0x00, 5, 5);
+    expect(&|bytes| bytes[8] = 0x00, 6, 16);
+    expect(&|bytes| bytes[9] = 0xF0, 6, 16);
+    expect(&|bytes| bytes[9] = 0x00, 6, 16);
+    expect(&|bytes| bytes[10] = 0x00, 6, 16);
+    expect(&|bytes| bytes[11] = 0x70, 6, 16);
+    expect(&|bytes| bytes[11] = 0x00, 6, 16);
+    expect(&|bytes| bytes[6] = 0x40, 6, 6);
+    expect(
+        &|bytes| bytes.resize(16 + 3 * PRG_BLOCK + 3 * 8_192, 0),
+        7,
+        7,
+    );
+    expect(&|bytes| bytes[4] = 2, 0, 8);
+    expect(&|bytes| bytes[5] = 2, 0, 8);
     expect(&|_| (), 0, 0);
 }
 
@@ -157,6 +198,13 @@ fn board_mode_refuses_no_call() {
                 assert!(board.read(address).is_ok());
             }
             assert!(board.clock().is_ok());
+        }
+    }
+    for mapper in [MMC1, MMC3] {
+        let mut board = Board::load(marked(mapper, 1, 1, NO_RAM), Mode::Board).unwrap();
+        for address in 0..=0xFFFF {
+            assert!(board.write(address, (address >> 3) as u8).is_ok());
+            assert!(board.read(address).is_ok());
         }
     }
 }

@@ -7,9 +7,9 @@ use biekkarul::{
     image_hash, Board, Digit, Mirroring, Mode, Refusal, Snapshot, SnapshotError, RAM_LENGTH,
 };
 use common::{
-    image, load, packed, serial, with, Numbers, BOTH_MODES, CNROM, MMC1, MMC3, NROM, UXROM,
-    VERTICAL,
+    image, load, marked, packed, serial, with, Numbers, BOTH_MODES, NO_RAM, RAM_8K, VERTICAL,
 };
+use common::{CNROM, MMC1, MMC3, NROM, UXROM};
 
 const VERSION: usize = 8;
 const MODE: usize = 9;
@@ -340,6 +340,36 @@ fn a_state_of_another_cartridge_under_this_images_hash() {
     bytes[HASH..STATE].copy_from_slice(&image_hash(board.image()).to_le_bytes());
     let snapshot = Snapshot::from_bytes(&summed(bytes)).unwrap();
     not_taken_up(board, &snapshot, SnapshotError::ImpossibleState);
+}
+
+/// Of a board without PRG RAM the bytes that it was given are kept all the same, and its note goes with it.
+#[test]
+fn a_board_without_prg_ram() {
+    let image = marked(MMC1, 2, 0, NO_RAM);
+    let mut board = Board::load(&image[..], Mode::Board).unwrap();
+    board.prg_ram_mut()[0] = 0x2A;
+    board.write(0x6001, 0x2B).unwrap();
+    let bytes = board.snapshot().to_bytes();
+    assert_eq!(bytes[PRG_RAM..PRG_RAM + 2], [0x2A, 0]);
+    let snapshot = Snapshot::from_bytes(&bytes).unwrap();
+    assert!(!snapshot.digits().has_prg_ram());
+    let again = Board::from_snapshot(&image[..], Mode::Board, &snapshot).unwrap();
+    assert_eq!(again, board);
+    assert_eq!((again.has_prg_ram(), again.read(0x6000)), (false, Ok(0)));
+}
+
+/// A state with PRG RAM, put under the hash of an image that has none, and the other way round: each could be a
+/// board's, but not this image's.
+#[test]
+fn a_state_of_other_prg_ram_under_this_images_hash() {
+    for (own, other) in [(NO_RAM, RAM_8K), (RAM_8K, NO_RAM)] {
+        let load = |byte10| Board::load(marked(MMC3, 2, 1, byte10), Mode::Board).unwrap();
+        let (board, stranger) = (load(own), load(other));
+        let mut bytes = stranger.snapshot().to_bytes();
+        bytes[HASH..STATE].copy_from_slice(&image_hash(board.image()).to_le_bytes());
+        let snapshot = Snapshot::from_bytes(&summed(bytes)).unwrap();
+        not_taken_up(board, &snapshot, SnapshotError::ImpossibleState);
+    }
 }
 
 /// The same with an image that no load takes.

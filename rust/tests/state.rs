@@ -3,9 +3,8 @@
 mod common;
 
 use biekkarul::{Board, Digit, Digits, Mode, Refusal, DIGITS, RAM_LENGTH, STATE_LENGTH};
-use common::{
-    image, kept, load, packed, with, Numbers, BOTH_MODES, CNROM, MMC1, MMC3, NROM, UXROM,
-};
+use common::{image, kept, load, marked, packed, with, Numbers, BOTH_MODES, NO_RAM, RAM_8K};
+use common::{CNROM, MMC1, MMC3, NROM, UXROM};
 
 const RAM: [u8; RAM_LENGTH] = [0; RAM_LENGTH];
 
@@ -178,6 +177,57 @@ fn a_serial_register_that_is_none_is_refused() {
     }
 }
 
+/// "Without PRG RAM, which the board notes and 10 covers": only board mode under the mark can lack it.
+#[test]
+fn prg_ram_that_is_not_there() {
+    let with_mark = |mode, byte10| Board::load(marked(MMC3, 2, 1, byte10), mode).unwrap();
+    for (board, ranges) in [
+        (load(MMC3, 2, 1, Mode::House), 1..2),
+        (load(MMC3, 2, 1, Mode::Board), 1..2),
+        (with_mark(Mode::House, NO_RAM), 1..2),
+        (with_mark(Mode::Board, NO_RAM), 0..2),
+        (with_mark(Mode::Board, RAM_8K), 0..2),
+    ] {
+        let own = board.digits()[Digit::PrgRam];
+        for value in 0..4 {
+            let state = packed(&with(board.digits(), Digit::PrgRam, value));
+            assert_eq!(Digits::of(&state).is_ok(), ranges.contains(&value));
+            let taken = from_state(board.image(), board.mode(), &state);
+            assert_eq!(taken.is_ok(), value == own, "{board:?}: {value}");
+        }
+    }
+}
+
+/// Counts above 255 too.
+#[test]
+fn counts_that_no_byte_holds() {
+    for (board, greatest) in [
+        (load(MMC3, 2, 1, Mode::House), 255),
+        (load(MMC3, 2, 1, Mode::Board), 128),
+        (
+            Board::load(marked(MMC3, 2, 1, NO_RAM), Mode::House).unwrap(),
+            255,
+        ),
+        (
+            Board::load(marked(MMC3, 2, 1, NO_RAM), Mode::Board).unwrap(),
+            2_048,
+        ),
+    ] {
+        let mut digits = *board.digits().all();
+        digits[Digit::ImageLength as usize] = 1 << 40; // room for any counts, so that none is refused for it
+        for (digit, count) in [Digit::PrgCount, Digit::ChrCount]
+            .iter()
+            .flat_map(|&digit| (1..4_096_u64).map(move |count| (digit, count)))
+        {
+            let mut changed = digits;
+            changed[digit as usize] = count;
+            let fits = board.mode() == Mode::House || count.is_power_of_two();
+            let wanted = fits && count <= greatest;
+            assert_eq!(Digits::of(&packed(&changed)).is_ok(), wanted, "{count}");
+        }
+    }
+}
+
 #[test]
 fn digits_of_a_state_are_told_in_their_order() {
     let mut board = load(MMC3, 2, 1, Mode::Board);
@@ -234,7 +284,7 @@ fn debug_shows_the_registers_and_no_bytes() {
     assert_eq!(
         format!("{board:?}"),
         "Board { mode: House, mapper: 4, header_mirroring: Horizontal, prg_count: 2, chr_count: 1, \
-         screens: Vertical, registers: Mmc3(Mmc3Registers { banks: [0, 0, 0, 0, 0, 0, 0, 0], select: 0, \
+         is_nes2: false, has_prg_ram: true, screens: Vertical, registers: Mmc3(Mmc3Registers { banks: [0, 0, 0, 0, 0, 0, 0, 0], select: 0, \
          prg_mode: 0, chr_mode: 0, latch: 7, counter: 0, irq_enabled: false, reload: false }), .. }"
     );
 }

@@ -1,6 +1,6 @@
 /*
  * Calls every exported function from C, against include/biekkarul.h, and checks its answers:
- * document 01's P lines, the order of the refusals, which states are taken and what they are read into. The
+ * document 01's P lines, the order of the refusals, NES 2.0, which states are taken and what they are read into. The
  * last two are held against a second reading of docs/ABI.md that stands here, by shifts and masks of its own
  * (get, could_be): every digit at every value, and every state that differs from a loaded one in one or two
  * bits. Whatever is refused must leave every buffer as it was.
@@ -104,6 +104,19 @@ static void start(unsigned byte6, unsigned prg, unsigned chr, unsigned mode) {
     expect("a good load", load(mode), 0);
 }
 
+/* The same image marked NES 2.0, with this byte 10; byte 11 says of CHR RAM what the count does. */
+static void make_marked(unsigned byte6, unsigned prg, unsigned chr, unsigned byte10) {
+    make_image(byte6, prg, chr);
+    image[7] = 0x08;
+    image[10] = (uint8_t)byte10;
+    image[11] = chr == 0 ? 0x07 : 0x00;
+}
+
+static void start_marked(unsigned byte6, unsigned prg, unsigned chr, unsigned byte10, unsigned mode) {
+    make_marked(byte6, prg, chr, byte10);
+    expect("a good load under the mark", load(mode), 0);
+}
+
 /*
  * The layout of docs/ABI.md, this test's own: word, lowest bit, count of bits. The digits stand in the order of
  * the page, so that a digit's number here is its place among those that a state is read into; behind them
@@ -171,10 +184,18 @@ static void set(uint8_t *state, enum digit_name name, uint64_t value) {
 
 static int power_of_two(uint64_t n) { return n != 0 && (n & (n - 1)) == 0; }
 
-/* Mode, mapper, counts, length and header's mirroring as a load could leave them. */
+/* Counts of twelve bits, and no PRG RAM: "in board mode with the NES 2.0 mark only". */
+static int is_read_as_nes2(const uint8_t *s) { return get(s, MODE) == BIEKKARUL_BOARD && get(s, NES2) == 1; }
+
+static int prg_ram_could_be(const uint8_t *s) {
+    return get(s, PRG_RAM) == 1 || (get(s, PRG_RAM) == 0 && is_read_as_nes2(s));
+}
+
+/* Mode, mapper, PRG RAM, counts, length and header's mirroring as a load could leave them. */
 static int cart_could_be(const uint8_t *s) {
-    uint64_t mapper = get(s, MAPPER), prg = get(s, PRG), chr = get(s, CHR);
-    if (mapper > MMC3 || get(s, HEADER_MIRRORING) > 1 || prg == 0 || prg > 255 || chr > 255) return 0;
+    uint64_t mapper = get(s, MAPPER), prg = get(s, PRG), chr = get(s, CHR), most = is_read_as_nes2(s) ? 4095 : 255;
+    if (mapper > MMC3 || get(s, HEADER_MIRRORING) > 1 || prg == 0 || prg > most || chr > most) return 0;
+    if (!prg_ram_could_be(s)) return 0;
     if ((mapper == NROM || mapper == CNROM) && prg > 2) return 0;
     if (get(s, MODE) == BIEKKARUL_BOARD && !(power_of_two(prg) && (chr == 0 || power_of_two(chr)))) return 0;
     return get(s, LENGTH) >= HEADER_LENGTH + PRG_BLOCK * prg + CHR_BLOCK * chr;
@@ -199,7 +220,7 @@ static unsigned owner_of(int name) {
 /* "every digit of another board than this one's is 0", and what is reserved or left of a word is as it must be. */
 static int others_could_be(const uint8_t *s) {
     int name;
-    if (get(s, VERSION) != BIEKKARUL_STATE_VERSION || get(s, PRG_RAM) != 1) return 0;
+    if (get(s, VERSION) != BIEKKARUL_STATE_VERSION) return 0;
     for (name = UXROM_BANK; name < DIGITS; name++) {
         uint64_t fixed = name == RAM_ENABLED;
         if (owner_of(name) != get(s, MAPPER) && get(s, (enum digit_name)name) != fixed) return 0;
@@ -334,6 +355,24 @@ static void check_two_bits(void) {
     }
 }
 
+/* Under the mark, with PRG RAM and without: in house mode it is there whatever byte 10 says. */
+static void check_marked_states(void) {
+    static const unsigned chr_counts[MAPPERS] = {0, 2, 0, 4, 4};
+    unsigned mapper, mode, byte10;
+    for (mapper = NROM; mapper < MAPPERS; mapper++) {
+        for (mode = BIEKKARUL_HOUSE; mode <= BIEKKARUL_BOARD; mode++) {
+            for (byte10 = 0x00; byte10 <= 0x07; byte10 += 0x07) {
+                start_marked(mapper * 16 + 1, 2, chr_counts[mapper], byte10, mode);
+                expect("the loaded state could be, marked", (unsigned)could_be(now.state), 1);
+                expect("the mark", (unsigned)get(now.state, NES2), 1);
+                expect("PRG RAM", (unsigned)get(now.state, PRG_RAM), mode == BIEKKARUL_HOUSE || byte10 == 0x07);
+                check_all_digits();
+            }
+            check_two_bits();
+        }
+    }
+}
+
 static void check_states(void) {
     static const unsigned chr_counts[MAPPERS] = {0, 2, 0, 4, 4};
     unsigned mapper, mode;
@@ -348,6 +387,8 @@ static void check_states(void) {
             expect("mapper", (unsigned)get(now.state, MAPPER), mapper);
             expect("header mirroring", (unsigned)get(now.state, HEADER_MIRRORING), 1);
             expect("mirroring", (unsigned)get(now.state, MIRRORING), 1);
+            expect("no mark", (unsigned)get(now.state, NES2), 0);
+            expect("PRG RAM", (unsigned)get(now.state, PRG_RAM), 1);
             expect("PRG count", (unsigned)get(now.state, PRG), 2);
             expect("CHR count", (unsigned)get(now.state, CHR), chr_counts[mapper]);
             expect("length", (unsigned)get(now.state, LENGTH), (unsigned)image_length);
@@ -418,6 +459,92 @@ static void check_load_order(void) {
     expect("load, 8", load(BIEKKARUL_BOARD), REFUSED(BIEKKARUL_COUNT_NO_POWER_OF_TWO));
     expect_untouched("refused loads");
     expect("load, house mode takes three blocks", load(BIEKKARUL_HOUSE), 0);
+}
+
+/* 16 "after 5 and before 6", and 4 by the longer number. House mode looks at none of bytes 8 to 11. */
+static void check_load_order_under_the_mark(void) {
+    const unsigned sixteen = REFUSED(BIEKKARUL_NES2_NOT_TAKEN);
+    make_marked(0x0C, 3, 0, 0x77);
+    image[8] = 0x11;
+    image_length = HEADER_LENGTH + PRG_BLOCK;
+    keep();
+    expect("marked, 9 first", load_with(2, 0, BIEKKARUL_RAM_LENGTH, 0), REFUSED(BIEKKARUL_RAM_NOT_8K));
+    expect("marked, 10 before 4", load(2), REFUSED(BIEKKARUL_STATE_OUT_OF_RANGE));
+    expect("marked, mapper 256 before 5", load(BIEKKARUL_BOARD), REFUSED(BIEKKARUL_MAPPER_NOT_TAKEN));
+    expect("marked, house mode has mapper 0", load(BIEKKARUL_HOUSE), REFUSED(BIEKKARUL_TRAINER_OR_FOUR_SCREEN));
+    image[8] = 0x10;
+    expect("marked, 5 before 16", load(BIEKKARUL_BOARD), REFUSED(BIEKKARUL_TRAINER_OR_FOUR_SCREEN));
+    image[6] = 0x00;
+    expect("marked, a submapper, before 6", load(BIEKKARUL_BOARD), sixteen);
+    expect("marked, house mode has no 16", load(BIEKKARUL_HOUSE), REFUSED(BIEKKARUL_PRG_COUNT_NOT_TAKEN));
+    image[8] = 0x00;
+    expect("marked, byte 10, before 6", load(BIEKKARUL_BOARD), sixteen);
+    image[10] = 0x00;
+    image[9] = 0x0F;
+    expect("marked, a PRG exponent, before 6", load(BIEKKARUL_BOARD), sixteen);
+    image[9] = 0xF0;
+    image[11] = 0x00;
+    expect("marked, a CHR exponent, before 6", load(BIEKKARUL_BOARD), sixteen);
+    image[9] = 0x00;
+    expect("marked, no CHR RAM and no CHR ROM, before 6", load(BIEKKARUL_BOARD), sixteen);
+    image[9] = 0x10;
+    image[11] = 0x70;
+    expect("marked, CHR RAM and 256 blocks of CHR ROM, before 6", load(BIEKKARUL_BOARD), sixteen);
+    image[9] = 0x00;
+    expect("marked, 6", load(BIEKKARUL_BOARD), REFUSED(BIEKKARUL_PRG_COUNT_NOT_TAKEN));
+    image[6] = 0x20;
+    image[4] = 0;
+    image[9] = 0x01;
+    expect("marked, 256 blocks, 7", load(BIEKKARUL_BOARD), REFUSED(BIEKKARUL_IMAGE_TOO_SHORT));
+    expect("marked, house mode has no block", load(BIEKKARUL_HOUSE), REFUSED(BIEKKARUL_PRG_COUNT_NOT_TAKEN));
+    image[4] = 3;
+    image[9] = 0x00;
+    image_length = HEADER_LENGTH + 3 * PRG_BLOCK;
+    expect("marked, 8", load(BIEKKARUL_BOARD), REFUSED(BIEKKARUL_COUNT_NO_POWER_OF_TWO));
+    expect_untouched("refused loads under the mark");
+    expect("marked, house mode takes three blocks", load(BIEKKARUL_HOUSE), 0);
+}
+
+/* "in each byte the two nibbles are both 0, or one is 0 and the other 7", and byte 11 as the CHR count says. */
+static void check_ram_shifts(void) {
+    const unsigned sixteen = REFUSED(BIEKKARUL_NES2_NOT_TAKEN);
+    unsigned byte, chr;
+    for (byte = 0; byte < 256; byte++) {
+        const int is_8k = byte == 0x07 || byte == 0x70;
+        make_marked(NROM * 16, 1, 0, byte);
+        expect("byte 10", load(BIEKKARUL_BOARD), byte == 0 || is_8k ? 0 : sixteen);
+        for (chr = 0; chr < 2; chr++) {
+            make_marked(NROM * 16, 1, chr, 0x07);
+            image[11] = (uint8_t)byte;
+            expect("byte 11", load(BIEKKARUL_BOARD), (chr == 0 ? is_8k : byte == 0) ? 0 : sixteen);
+            expect("byte 11 in house mode", load(BIEKKARUL_HOUSE), 0);
+            image[7] = 0x00;
+            expect("byte 11 without the mark", load(BIEKKARUL_BOARD), 0);
+        }
+    }
+}
+
+/* Without PRG RAM 6000-7FFF reads 0 and ignores writes; both RAMs are lent, cleared and judged all the same. */
+static void check_no_prg_ram(void) {
+    static const unsigned mappers[2] = {MMC1, MMC3};
+    const size_t state = BIEKKARUL_STATE_LENGTH, ram = BIEKKARUL_RAM_LENGTH;
+    unsigned i;
+    for (i = 0; i < 2; i++) {
+        start_marked(mappers[i] * 16, 2, 0, 0x00, BIEKKARUL_BOARD);
+        expect("PRG RAM is cleared all the same", now.prg_ram[0] + now.prg_ram[BIEKKARUL_RAM_LENGTH - 1], 0);
+        memset(now.prg_ram, 0x5A, BIEKKARUL_RAM_LENGTH);
+        keep();
+        expect("no PRG RAM, read", read_at(0x6000), 0);
+        expect("no PRG RAM, write", write_at(0x7FFF, 0x33), 0);
+        expect("no PRG RAM, read again", read_at(0x7FFF), 0);
+        expect_untouched("a write to no PRG RAM");
+        expect("no PRG RAM, its length", read_with(state, ram - 1, ram, 0x6000), REFUSED(BIEKKARUL_RAM_NOT_8K));
+        expect("no PRG RAM, CHR RAM is there", write_at(0x0000, 0x33), 0);
+        expect("no PRG RAM, CHR RAM", now.chr_ram[0], 0x33);
+        start_marked(mappers[i] * 16, 2, 0, 0x00, BIEKKARUL_HOUSE);
+        expect("house mode has PRG RAM, write", write_at(0x7FFF, 0x33), 0);
+        expect("house mode has PRG RAM, read", read_at(0x7FFF), 0x33);
+    }
 }
 
 static void check_load_clears(void) {
@@ -575,6 +702,7 @@ static void check_names(void) {
         BIEKKARUL_NO_CHR_RAM, BIEKKARUL_NO_SUCH_PLACE, BIEKKARUL_IRQ_PENDING};
     unsigned i;
     for (i = 0; i < 14; i++) expect("the number of a refusal", refusals[i], i + 1);
+    expect("the number of NES 2.0's refusal", BIEKKARUL_NES2_NOT_TAKEN, 16);
     expect("a refusal", BIEKKARUL_IS_REFUSED(256), 1);
     expect("an answer", BIEKKARUL_IS_REFUSED(255), 0);
     expect("a refusal's number", BIEKKARUL_REFUSAL(256 + 14), 14);
@@ -587,6 +715,9 @@ int main(void) {
     check_header();
     check_load_clears();
     check_load_order();
+    check_load_order_under_the_mark();
+    check_ram_shifts();
+    check_no_prg_ram();
     check_wrong_lengths();
     check_p1_to_p6();
     check_p7_and_p8();
@@ -594,6 +725,7 @@ int main(void) {
     check_house_refusals();
     check_notices();
     check_states();
+    check_marked_states();
     printf("calls: %lu checks, %lu failed\n", checks, failures);
     return failures != 0;
 }

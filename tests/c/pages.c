@@ -1,7 +1,7 @@
 /*
  * biekkarul_pages and biekkarul_write_moved, against the calls that they stand beside and against the second reading of
- * the boards in trials/model.h: five boards, both modes, images of many shapes, states that random writes reach, banks
- * past the data among them. A map that is made anew only where an answer says so must always be the whole map; a read
+ * the boards in trials/model.h: five boards, both modes, images of many shapes, NES 2.0 with and without PRG RAM, states
+ * that random writes reach, banks past the data among them. A map that is made anew only where an answer says so must always be the whole map; a read
  * or a write through any of its pages must be the call's and the model's; lengths that do not fit and states that are
  * none must be refused with nothing changed.
  */
@@ -10,13 +10,14 @@
 #include <stdio.h>
 #include <stdlib.h>
 
-#define MOST_IMAGE (HEADER_LENGTH + 255u * PRG_BLOCK + 255u * CHR_BLOCK)
+#define MOST_IMAGE (HEADER_LENGTH + 512u * PRG_BLOCK + 256u * CHR_BLOCK)
 #define TEN REFUSED(BIEKKARUL_STATE_OUT_OF_RANGE)
 #define NINE REFUSED(BIEKKARUL_RAM_NOT_8K)
 #define MOST 40             /* messages before we stop */
 #define NO_PAGE 0xA5A5A5A5u /* what a number holds before it is written */
 #define CHR_PAGES 8u
 #define FIRST_PRG_PAGE 32u
+#define FIRST_RAM_PAGE 24u /* 6000 */
 
 static unsigned long checks, failures;
 
@@ -93,10 +94,9 @@ static struct map whole_map(void) {
     return m;
 }
 
-static void load(unsigned mapper, unsigned mode, unsigned prg, unsigned chr) {
-    const uint8_t flags = (uint8_t)(mapper * 16 + below(2));
-    const uint8_t header[HEADER_LENGTH] = {0x4E, 0x45, 0x53, 0x1A, (uint8_t)prg, (uint8_t)chr, flags};
-    memcpy(image, header, sizeof header);
+/* Loads the image behind this header three times. */
+static void load_image(const uint8_t *header, unsigned mode, unsigned prg, unsigned chr) {
+    memcpy(image, header, HEADER_LENGTH);
     image_length = HEADER_LENGTH + PRG_BLOCK * (size_t)prg + CHR_BLOCK * (size_t)chr;
     memset(&called, 0xA5, sizeof called);
     expect("an image that is taken", load_answer(image, image_length, mode), 0);
@@ -105,6 +105,20 @@ static void load(unsigned mapper, unsigned mode, unsigned prg, unsigned chr) {
     mapped = called;
     model_load(&model, image, image_length, mode);
     map = loaded_map = whole_map();
+}
+
+static void load(unsigned mapper, unsigned mode, unsigned prg, unsigned chr) {
+    const uint8_t flags = (uint8_t)(mapper * 16 + below(2));
+    const uint8_t header[HEADER_LENGTH] = {0x4E, 0x45, 0x53, 0x1A, (uint8_t)prg, (uint8_t)chr, flags};
+    load_image(header, mode, prg, chr);
+}
+
+/* The same marked NES 2.0: counts may be longer than a byte, and byte 10 says whether there is PRG RAM. */
+static void load_marked(unsigned mapper, unsigned mode, unsigned prg, unsigned chr, unsigned byte10) {
+    const uint8_t flags = (uint8_t)(mapper * 16 + below(2)), longer = (uint8_t)(chr / 256 * 16 + prg / 256);
+    const uint8_t header[HEADER_LENGTH] = {0x4E, 0x45, 0x53, 0x1A, (uint8_t)(prg % 256), (uint8_t)(chr % 256), flags, 0x08,
+                                           0,    longer, (uint8_t)byte10, chr == 0 ? 0x70 : 0x00};
+    load_image(header, mode, prg, chr);
 }
 
 /* The numbers of the map are the model's. */
@@ -275,6 +289,54 @@ static void check_boards(void) {
     expect("on NROM nothing moves", moved[NROM], 0);
 }
 
+/* Counts that board mode takes under the mark; house mode reads those below 256 as iNES. */
+static const unsigned marked_shapes[][2] = {{1, 0}, {2, 4}, {2, 256}, {16, 32}, {256, 0}, {512, 256}};
+#define MARKED_SHAPES (sizeof marked_shapes / sizeof *marked_shapes)
+
+static void check_marked_board(unsigned mapper, unsigned mode, unsigned prg, unsigned chr) {
+    static const unsigned bytes10[3] = {0x00, 0x07, 0x70};
+    unsigned k;
+    if ((mapper == NROM || mapper == CNROM) && prg > 2) return;
+    if (mode == BIEKKARUL_HOUSE && (prg > 255 || chr > 255)) return;
+    for (k = 0; k < 3; k++) {
+        load_marked(mapper, mode, prg, chr, bytes10[k]);
+        check_numbers(&map);
+        play(30);
+    }
+}
+
+static void check_marked_boards(void) {
+    unsigned mapper, mode, shape;
+    for (mapper = NROM; mapper <= MMC3; mapper++)
+        for (mode = BIEKKARUL_HOUSE; mode <= BIEKKARUL_BOARD; mode++)
+            for (shape = 0; shape < MARKED_SHAPES; shape++)
+                check_marked_board(mapper, mode, marked_shapes[shape][0], marked_shapes[shape][1]);
+}
+
+/* 6000-7FFF of MMC1 and MMC3: nowhere in board mode where byte 10 is 00, else PRG RAM from its start on. */
+static void check_ram_pages(unsigned mapper, unsigned mode, unsigned byte10) {
+    const int there = mode == BIEKKARUL_HOUSE || byte10 != 0x00;
+    unsigned page;
+    load_marked(mapper, mode, 2, 0, byte10);
+    for (page = FIRST_RAM_PAGE; page < FIRST_PRG_PAGE; page++) {
+        const unsigned offset = (page - FIRST_RAM_PAGE) * BIEKKARUL_PAGE_LENGTH;
+        const unsigned kind = there ? BIEKKARUL_PAGE_PRG_RAM : BIEKKARUL_PAGE_NOWHERE;
+        expect("the kind of a page of 6000-7FFF, read", BIEKKARUL_PAGE_KIND(map.reads[page]), kind);
+        expect("the kind of a page of 6000-7FFF, written", BIEKKARUL_PAGE_KIND(map.writes[page]), kind);
+        expect("its offset", BIEKKARUL_PAGE_OFFSET(map.reads[page]), there ? offset : 0);
+    }
+}
+
+static void check_prg_ram_pages(void) {
+    unsigned mode;
+    for (mode = BIEKKARUL_HOUSE; mode <= BIEKKARUL_BOARD; mode++) {
+        check_ram_pages(MMC1, mode, 0x00);
+        check_ram_pages(MMC1, mode, 0x07);
+        check_ram_pages(MMC3, mode, 0x00);
+        check_ram_pages(MMC3, mode, 0x70);
+    }
+}
+
 /* Room for more numbers than there are pages. */
 #define ROOM 330u
 static uint32_t reads[ROOM], writes[ROOM], held[ROOM];
@@ -368,6 +430,8 @@ static void check_states(void) {
             load(mapper, mode, 2, mapper % 2 == 0 ? 0 : 4);
             for (round = 0; round < 12; round++) move_a_bank();
             check_states_around();
+            load_marked(mapper, mode, 2, mapper % 2 == 0 ? 0 : 4, 0x00);
+            check_states_around();
         }
     }
 }
@@ -427,6 +491,8 @@ int main(void) {
     check_refused_writes();
     check_states();
     check_boards();
+    check_prg_ram_pages();
+    check_marked_boards();
     printf("pages: %lu checks, %lu failed\n", checks, failures);
     return failures != 0;
 }

@@ -1,7 +1,7 @@
 -- The board that a load gives.
 use Prim.Native.Nat.{ℕ}
 use mathlib.Core.Path.{_≡_}
-use mathlib.Core.Bool.{false}
+use mathlib.Core.Bool.{true, false}
 use mathlib.Core.List.{List}
 use lib.ListN.{length}
 use Rattle.common.specs.declared.Mode.{Mode}
@@ -23,7 +23,7 @@ startOf c = record { cart = c; mirroring = c .mirroring; registers = start (c .m
 
 -- what stands beside the number of a refused load: a board without an image, which every call refuses
 unfoldable pub noBoard : Board
-noBoard = startOf (record { mode = House; mapper = Nrom; nes2 = false; mirroring = Horizontal; prg = 0; chr = 0; length = 0 })
+noBoard = startOf (record { mode = House; mapper = Nrom; nes2 = false; mirroring = Horizontal; prgram = true; prg = 0; chr = 0; length = 0 })
 
 -- an accepted cartridge starts its board; "A refusal yields its number only"
 unfoldable pub loadedBoard : Cart.Loaded → Loaded

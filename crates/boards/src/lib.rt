@@ -229,6 +229,7 @@ pub fn no_board() -> Board
         mapper: MapperType::Nrom,
         nes2: false,
         mirroring: Mirroring::Horizontal,
+        prgram: true,
         prg: 0,
         chr: 0,
         length: 0,

@@ -1,5 +1,5 @@
--- Of the counts up to 255 those with one bit are the eight of the list: by computation; so the range may test the bits. Assumes nothing.
-use Prim.Native.Nat.{ℕ, zero, suc, _+_, _/_, _%_, _^_, _<_}
+-- Of the counts below 4,096 those with one bit are the twelve of the list: by computation; so the range may test the bits. Assumes nothing.
+use Prim.Native.Nat.{ℕ, zero, suc, _+_, _/_, _%_, _^_, _≤_, _<_}
 use mathlib.Core.Path.{_≡_, refl, sym, ap, ap₂, _∙_}
 use mathlib.Core.Bool.{Bool, true, false, not, _&&_, _||_}
 use native.Mathlib.Nat.{pow-suc, not-suc-le-zero}
@@ -11,7 +11,8 @@ use Rattle.rules.proofs.Bools.{and-left, and-right}
 use Rattle.common.specs.Answers.{isHeaders}
 use Rattle.common.specs.declared.Mode.{Mode}
 use Rattle.common.specs.declared.Mode.the-variants.{House, Board}
-use Rattle.cartridge.specs.Load.{isPower, noPowers, badPrg, needed, couldLoad}
+use Rattle.cartridge.specs.Nes2.{isNes2In}
+use Rattle.cartridge.specs.Load.{isPower, noPowers, badPrg, needed, countsEnd, prgRamFits, couldLoad}
 use Rattle.cartridge.specs.Steps.{hasOneBit, notOneBit}
 use Rattle.cartridge.specs.Mappers.{mapperNumber}
 use Rattle.cartridge.specs.declared.Cartridge.{Cartridge}
@@ -45,43 +46,54 @@ alike-is true false e = sym e
 alike-is false true e = e
 alike-is false false e = refl
 
-computed : upTo (λ (n : ℕ). alike (eqb (onesIn 8 n) 1) (isPower n)) 256 ≡ true
+computed : upTo (λ (n : ℕ). alike (eqb (onesIn 12 n) 1) (isPower n)) 4096 ≡ true
 unfolding onesIn isPower
 computed = refl
 
-one-of-eight : (n : ℕ) → n < 256 → hasOneBit n ≡ isPower n
+one-of-twelve : (n : ℕ) → n < 4096 → hasOneBit n ≡ isPower n
 unfolding hasOneBit
-one-of-eight n l =
-    ap (λ (m : ℕ). eqb m 1) (bits 8 n l)
-    ∙ alike-is (eqb (onesIn 8 n) 1) (isPower n) (at (λ (k : ℕ). alike (eqb (onesIn 8 k) 1) (isPower k)) 256 n l computed)
+one-of-twelve n l =
+    ap (λ (m : ℕ). eqb m 1) (bits 12 n l)
+    ∙ alike-is (eqb (onesIn 12 n) 1) (isPower n) (at (λ (k : ℕ). alike (eqb (onesIn 12 k) 1) (isPower k)) 4096 n l computed)
 
-same-powers : (mode : Mode) (prg chr : ℕ) → prg < 256 → chr < 256 → notOneBit mode prg chr ≡ noPowers mode prg chr
+same-powers : (mode : Mode) (prg chr : ℕ) → prg < 4096 → chr < 4096 → notOneBit mode prg chr ≡ noPowers mode prg chr
 unfolding notOneBit noPowers
 same-powers House prg chr p c = refl
 same-powers Board prg chr p c =
-    ap₂ (λ (x y : Bool). not x || (not (eqb chr 0) && not y)) (one-of-eight prg p) (one-of-eight chr c)
+    ap₂ (λ (x y : Bool). not x || (not (eqb chr 0) && not y)) (one-of-twelve prg p) (one-of-twelve chr c)
 
 none : (x : Bool) → (x && false) ≡ false
 none true = refl
 none false = refl
 
-beside : (mode : Mode) (prg chr : ℕ) (x y z : Bool)
-    → ((x && not (notOneBit mode prg chr)) && (ltb prg 256 && ltb chr 256 && y) && z) ≡ ((x && not (noPowers mode prg chr)) && (ltb prg 256 && ltb chr 256 && y) && z)
-beside mode prg chr x y z = go (ltb prg 256) (ltb chr 256) refl refl
-  where
-    go : (p c : Bool) → ltb prg 256 ≡ p → ltb chr 256 ≡ c
-        → ((x && not (notOneBit mode prg chr)) && (ltb prg 256 && ltb chr 256 && y) && z) ≡ ((x && not (noPowers mode prg chr)) && (ltb prg 256 && ltb chr 256 && y) && z)
-    go true true p c = rw (same-powers mode prg chr (ltb-true prg 256 p) (ltb-true chr 256 c)) refl
-    go true false p c = rw (p, c, none (x && not (notOneBit mode prg chr)), none (x && not (noPowers mode prg chr))) refl
-    go false c p e = rw (p, none (x && not (notOneBit mode prg chr)), none (x && not (noPowers mode prg chr))) refl
+module _ (mode : Mode) (prg chr end : ℕ) (h : end ≤ 4096) (x y z w : Bool) where
+  beside : ((x && not (notOneBit mode prg chr)) && (ltb prg end && ltb chr end && y) && z && w) ≡ ((x && not (noPowers mode prg chr)) && (ltb prg end && ltb chr end && y) && z && w)
+  beside = go (ltb prg end) (ltb chr end) refl refl
+    where
+      go : (p c : Bool) → ltb prg end ≡ p → ltb chr end ≡ c
+          → ((x && not (notOneBit mode prg chr)) && (ltb prg end && ltb chr end && y) && z && w) ≡ ((x && not (noPowers mode prg chr)) && (ltb prg end && ltb chr end && y) && z && w)
+      go true true p c =
+          let l = ltb-true prg end p in
+          let m = ltb-true chr end c in
+          rw (same-powers mode prg chr (omega (arith, h, l)) (omega (arith, h, m))) refl
+      go true false p c = rw (p, c, none (x && not (notOneBit mode prg chr)), none (x && not (noPowers mode prg chr))) refl
+      go false c p e = rw (p, none (x && not (notOneBit mode prg chr)), none (x && not (noPowers mode prg chr))) refl
 
--- beside the test that both are below 256, either test of the counts says the same
+pub counts-end-small : (mode : Mode) (mark : Bool) → countsEnd mode mark ≤ 4096
+unfolding countsEnd isNes2In
+counts-end-small House mark = omega arith
+counts-end-small Board true = omega arith
+counts-end-small Board false = omega arith
+
+-- beside the test that both are counts of a header, either test of the counts says the same
 pub by-bits : (c : Cartridge)
     → ((not (badPrg (mapperNumber (c .mapper)) (c .prg)) && not (notOneBit (c .mode) (c .prg) (c .chr)))
-    && (ltb (c .prg) 256 && ltb (c .chr) 256 && leb (needed (c .prg) (c .chr)) (c .length))
-    && isHeaders (c .mirroring))
+    && (ltb (c .prg) (countsEnd (c .mode) (c .nes2)) && ltb (c .chr) (countsEnd (c .mode) (c .nes2)) && leb (needed (c .prg) (c .chr)) (c .length))
+    && isHeaders (c .mirroring)
+    && prgRamFits c)
     ≡ couldLoad c
 unfolding couldLoad
 by-bits c =
-    beside (c .mode) (c .prg) (c .chr) (not (badPrg (mapperNumber (c .mapper)) (c .prg))) (leb (needed (c .prg) (c .chr)) (c .length))
-    (isHeaders (c .mirroring))
+    let s = counts-end-small (c .mode) (c .nes2) in
+    beside (c .mode) (c .prg) (c .chr) (countsEnd (c .mode) (c .nes2)) (omega (arith, s)) (not (badPrg (mapperNumber (c .mapper)) (c .prg)))
+    (leb (needed (c .prg) (c .chr)) (c .length)) (isHeaders (c .mirroring)) (prgRamFits c)

@@ -11,7 +11,8 @@ use Rattle.common.specs.declared.Mode.{Mode}
 use Rattle.common.specs.declared.Mode.the-variants.{House, Board}
 use Rattle.memory.specs.Memory.{tail}
 use Rattle.cartridge.specs.Refusals.{Row, given, first}
-use Rattle.cartridge.specs.Header.{isInes, headerOf, mapperOf, mirroringOf, isNes2, isSpecial}
+use Rattle.cartridge.specs.Header.{isInes, headerOf, mirroringOf, isNes2, isSpecial}
+use Rattle.cartridge.specs.Nes2.{isNes2In, mapperIn, prgIn, chrIn, nes2NotTaken, hasPrgRam}
 use Rattle.cartridge.specs.Mappers.{mapperNumber, mapperType}
 use Rattle.cartridge.specs.declared.Header.{Header}
 use Rattle.cartridge.specs.declared.Cartridge.{Cartridge}
@@ -20,9 +21,11 @@ use Rattle.cartridge.specs.declared.Verdict.the-variants.{Take, Refuse}
 use Rattle.cartridge.specs.declared.Loaded.{Loaded}
 use Rattle.cartridge.specs.declared.Loaded.the-variants.{Accepted, Refused}
 
--- "a list of the powers of two from 1 to 128"
+-- "a list of the powers of two from 1 to 128", which M-100's counts take to 2,048
 unfoldable pub isPower : ℕ → Bool
-isPower n = eqb 1 n || eqb 2 n || eqb 4 n || eqb 8 n || eqb 16 n || eqb 32 n || eqb 64 n || eqb 128 n
+isPower n =
+    (eqb 1 n || eqb 2 n || eqb 4 n || eqb 8 n || eqb 16 n || eqb 32 n || eqb 64 n || eqb 128 n)
+    || (eqb 256 n || eqb 512 n || eqb 1024 n || eqb 2048 n)
 
 -- refusal 6: "PRG count 0; or above 2 for mappers 0 and 3"
 unfoldable pub badPrg : ℕ → ℕ → Bool
@@ -41,7 +44,7 @@ noPowers Board prg chr = not (isPower prg) || (not (eqb chr 0) && not (isPower c
 unfoldable pub ramsFit : ℕ → ℕ → Bool
 ramsFit prg chr = eqb prg 8192 && eqb chr 8192
 
--- "Order in load: 9, 3, 4, 5, 6, 7, 8"; of an image, a mode and the lengths of the RAMs
+-- "Order in load: 9, 3, 4, 5, 6, 7, 8", with 16 "after 5 and before 6"; "refusal 4 uses the longer mapper number, 6 to 8 the longer counts"; of an image, a mode and the lengths of the RAMs
 abbrev pub loadRefusals : List ℕ → Mode → ℕ → ℕ → List Row
 loadRefusals s mode prg chr =
     let h = headerOf s in
@@ -49,12 +52,13 @@ loadRefusals s mode prg chr =
     -- "fewer than 16,400 bytes, or bytes 0-3 wrong"
     ∷ given 3 (ltb (length s) 16400 || not (isInes s))
     -- "mapper above 4"
-    ∷ given 4 (ltb 4 (mapperOf h))
+    ∷ given 4 (ltb 4 (mapperIn mode h))
     ∷ given 5 (isSpecial h)
-    ∷ given 6 (badPrg (mapperOf h) (h .prg))
+    ∷ given 16 (nes2NotTaken mode h)
+    ∷ given 6 (badPrg (mapperIn mode h) (prgIn mode h))
     -- "image shorter than 16 + 16,384 x PRG + 8,192 x CHR"
-    ∷ given 7 (ltb (length s) (needed (h .prg) (h .chr)))
-    ∷ given 8 (noPowers mode (h .prg) (h .chr))
+    ∷ given 7 (ltb (length s) (needed (prgIn mode h) (chrIn mode h)))
+    ∷ given 8 (noPowers mode (prgIn mode h) (chrIn mode h))
     ∷ []
 
 -- what a load decides
@@ -66,11 +70,12 @@ unfoldable pub cartridgeOf : Header → Mode → ℕ → Cartridge
 cartridgeOf h mode len =
     record {
       mode = mode;
-      mapper = mapperType (mapperOf h);
+      mapper = mapperType (mapperIn mode h);
       nes2 = isNes2 h;
       mirroring = mirroringOf h;
-      prg = h .prg;
-      chr = h .chr;
+      prgram = hasPrgRam mode h;
+      prg = prgIn mode h;
+      chr = chrIn mode h;
       length = len;
     }
 
@@ -122,9 +127,19 @@ chrRom c image = tail image (16 + prgTotal c)
 unfoldable pub chrData : Cartridge → List ℕ → List ℕ → List ℕ
 chrData c image ram = cond (hasChrRam c) ram (chrRom c image)
 
--- state ranges: "Mapper, counts, length and mirroring as a load could leave them"
+-- above every count that a header can say: a byte, and with M-100's extension a nibble above it
+unfoldable pub countsEnd : Mode → Bool → ℕ
+countsEnd mode mark = cond (isNes2In mode mark) 4096 256
+
+-- "Without PRG RAM, which .. 10 covers": only an image that is read as NES 2.0 can lack it
+unfoldable pub prgRamFits : Cartridge → Bool
+prgRamFits c = c .prgram || isNes2In (c .mode) (c .nes2)
+
+-- state ranges: "Mapper, counts, length and mirroring as a load could leave them", and the note of PRG RAM
 unfoldable pub couldLoad : Cartridge → Bool
 couldLoad c =
+    let end = countsEnd (c .mode) (c .nes2) in
     (not (badPrg (mapperNumber (c .mapper)) (c .prg)) && not (noPowers (c .mode) (c .prg) (c .chr)))
-    && (ltb (c .prg) 256 && ltb (c .chr) 256 && leb (needed (c .prg) (c .chr)) (c .length))
+    && (ltb (c .prg) end && ltb (c .chr) end && leb (needed (c .prg) (c .chr)) (c .length))
     && isHeaders (c .mirroring)
+    && prgRamFits c

@@ -1,10 +1,12 @@
-// The iNES header, and what a load accepts and leaves. Ported from potatis nes/src/cartridge.rs.
+// The iNES header, and what a load accepts and leaves. Ported from potatis nes/src/cartridge.rs; what board
+// mode reads of an NES 2.0 header is not in the Rust.
 ghost use mathlib.Core.Path.{_≡_};
 ghost use Prim.Native.Nat.{_+_, _*_};
 ghost use lib.ListN.{length};
 ghost use Rattle.cartridge.specs.Mappers.{mapperNumber, isMapper, mapperType};
 ghost use Rattle.cartridge.specs.Header.{isInes, headerOf, headerRead, totalSize, mapperOf, mirroringOf, isNes2, isSpecial};
-ghost use Rattle.cartridge.specs.Load.{isPower, noPowers, badPrg, needed, ramsFit, verdict, cartridgeOf, loadedAs, ramAfter, LoadOwes, prgTotal, hasChrRam, chrTotal, prgRom, chrRom, chrData, lastPrg, couldLoad};
+ghost use Rattle.cartridge.specs.Nes2.{isNes2In, extended, longer, mapperIn, prgIn, chrIn, hasSubmapper, hasExponent, isShifts, saysOtherwise, nes2NotTaken, hasPrgRam};
+ghost use Rattle.cartridge.specs.Load.{isPower, noPowers, badPrg, needed, ramsFit, verdict, cartridgeOf, loadedAs, ramAfter, LoadOwes, prgTotal, hasChrRam, chrTotal, prgRom, chrRom, chrData, lastPrg, countsEnd, prgRamFits, couldLoad};
 ghost use Rattle.cartridge.specs.Steps.{headerAnswer, firstOf, verdictOn, hasOneBit, notOneBit};
 use common::Mirroring;
 use common::Mode;
@@ -81,6 +83,101 @@ impl Header {
     {
         self.flags6 / 4 % 4 != 0
     }
+
+    fn is_extended(self, mode: Mode) -> bool
+        ensures { λ r. ⌜ r ≡ extended mode self ⌝ }
+    {
+        is_nes2_in(mode, self.is_nes2())
+    }
+
+    // A number that iNES has in a byte, with the nibble that NES 2.0 has above it.
+    fn longer(self, mode: Mode, number: u8, nibble: u8) -> u16
+        ensures { λ r. ⌜ r ≡ longer mode self number nibble ⌝ }
+    {
+        if self.is_extended(mode) {
+            (number as u16) + (nibble as u16) * 256
+        } else {
+            number as u16
+        }
+    }
+
+    fn mapper_in(self, mode: Mode) -> u16
+        ensures { λ r. ⌜ r ≡ mapperIn mode self ⌝ }
+    {
+        self.longer(mode, self.mapper(), self.flags8 % 16)
+    }
+
+    fn prg_in(self, mode: Mode) -> u16
+        ensures { λ r. ⌜ r ≡ prgIn mode self ⌝ }
+    {
+        self.longer(mode, self.prg, self.flags9 % 16)
+    }
+
+    fn chr_in(self, mode: Mode) -> u16
+        ensures { λ r. ⌜ r ≡ chrIn mode self ⌝ }
+    {
+        self.longer(mode, self.chr, self.flags9 / 16)
+    }
+
+    fn has_submapper(self) -> bool
+        ensures { λ r. ⌜ r ≡ hasSubmapper self ⌝ }
+    {
+        self.flags8 / 16 != 0
+    }
+
+    // A count as a power of two and a multiplier, which no image of ours needs.
+    fn has_exponent(self) -> bool
+        ensures { λ r. ⌜ r ≡ hasExponent self ⌝ }
+    {
+        (self.flags9 % 16 == 15) | (self.flags9 / 16 == 15)
+    }
+
+    // Refusal 16.
+    fn nes2_not_taken(self, mode: Mode) -> bool
+        ensures { λ r. ⌜ r ≡ nes2NotTaken mode self ⌝ }
+    {
+        self.is_extended(mode)
+            & (self.has_submapper()
+                | self.has_exponent()
+                | !is_shifts(self.flags10)
+                | !is_shifts(self.flags11)
+                | says_otherwise(self.chr_in(mode), self.flags11))
+    }
+
+    // An iNES header does not say; the boards have it.
+    fn has_prg_ram(self, mode: Mode) -> bool
+        ensures { λ r. ⌜ r ≡ hasPrgRam mode self ⌝ }
+    {
+        if self.is_extended(mode) {
+            self.flags10 != 0
+        } else {
+            true
+        }
+    }
+}
+
+// House mode knows no NES 2.0: the mark changes nothing there.
+fn is_nes2_in(mode: Mode, mark: bool) -> bool
+    ensures { λ r. ⌜ r ≡ isNes2In mode mark ⌝ }
+{
+    match mode {
+        Mode::House => false,
+        Mode::Board => mark,
+    }
+}
+
+// Two shifts of a RAM, without a battery and with one: none of it, or 8 KB of one kind.
+fn is_shifts(byte: u8) -> bool
+    ensures { λ r. ⌜ r ≡ isShifts byte ⌝ }
+{
+    (byte == 0x00) | (byte == 0x07) | (byte == 0x70)
+}
+
+// Byte 11 has CHR RAM beside CHR blocks, or none where there are no blocks.
+fn says_otherwise(chr: u16, byte11: u8) -> bool
+    ensures { λ r. ⌜ r ≡ saysOtherwise chr byte11 ⌝ }
+{
+    ((chr == 0) & (byte11 == 0)) | ((chr != 0) & (byte11 != 0))
 }
 
 fn header_answer(short: bool, ines: bool, h: Header) -> HeaderAnswer
@@ -153,7 +250,7 @@ impl MapperType {
     }
 
     // The board of a number up to 4; the load refuses the others.
-    pub fn numbered(number: u8) -> MapperType
+    pub fn numbered(number: u16) -> MapperType
         ensures { λ r. ⌜ r ≡ mapperType number ⌝ }
     {
         if number == 0 {
@@ -174,9 +271,10 @@ impl MapperType {
 pub struct Cartridge {
     pub mode: Mode,
     pub mapper: MapperType,
-    // Recorded, and changes nothing.
+    // Recorded; what board mode read by it stands in the fields below.
     pub nes2: bool,
     pub mirroring: Mirroring,
+    pub prgram: bool,
     // In 16 KB blocks.
     pub prg: u16,
     // In 8 KB blocks; 0 means 8 KB of CHR RAM.
@@ -252,28 +350,49 @@ impl Cartridge {
         let mapper = self.mapper;
         let mode = self.mode;
         let mirroring = self.mirroring;
-        let counts = !bad_prg(mapper.number(), self.prg) & !not_one_bit(mode, self.prg, self.chr);
-        let size = (self.prg < 256)
-            & (self.chr < 256)
+        let end = counts_end(mode, self.nes2);
+        let counts = !bad_prg(mapper.number() as u16, self.prg)
+            & !not_one_bit(mode, self.prg, self.chr);
+        let size = (self.prg < end)
+            & (self.chr < end)
             & ((needed(self.prg, self.chr) as usize) <= self.length);
-        counts & size & mirroring.is_headers()
+        counts & size & mirroring.is_headers() & self.prg_ram_fits()
+    }
+
+    fn prg_ram_fits(self) -> bool
+        ensures { λ r. ⌜ r ≡ prgRamFits self ⌝ }
+    {
+        let mode = self.mode;
+        self.prgram | is_nes2_in(mode, self.nes2)
     }
 }
 
+// Above every count that a header can say.
+fn counts_end(mode: Mode, mark: bool) -> u16
+    ensures { λ r. ⌜ r ≡ countsEnd mode mark ⌝ }
+{
+    if is_nes2_in(mode, mark) { 4096 } else { 256 }
+}
+
 // Refusal 8 consults this list.
-const POWERS_OF_TWO: [u16; 8] = [1, 2, 4, 8, 16, 32, 64, 128];
+const POWERS_OF_TWO: [u16; 12] = [1, 2, 4, 8, 16, 32, 64, 128, 256, 512, 1024, 2048];
 
 fn is_power_of_two(n: u16) -> bool
     ensures { λ r. ⌜ r ≡ isPower n ⌝ }
 {
-    (POWERS_OF_TWO[0] == n)
+    let of_a_byte = (POWERS_OF_TWO[0] == n)
         | (POWERS_OF_TWO[1] == n)
         | (POWERS_OF_TWO[2] == n)
         | (POWERS_OF_TWO[3] == n)
         | (POWERS_OF_TWO[4] == n)
         | (POWERS_OF_TWO[5] == n)
         | (POWERS_OF_TWO[6] == n)
-        | (POWERS_OF_TWO[7] == n)
+        | (POWERS_OF_TWO[7] == n);
+    let above = (POWERS_OF_TWO[8] == n)
+        | (POWERS_OF_TWO[9] == n)
+        | (POWERS_OF_TWO[10] == n)
+        | (POWERS_OF_TWO[11] == n);
+    of_a_byte | above
 }
 
 // Refusal 8: a PRG count, or a CHR count that is not 0, is no power of two. Board mode only.
@@ -292,7 +411,7 @@ fn has_one_bit(n: u16) -> bool
     u16::count_ones(n) == 1
 }
 
-// The same of counts up to 255, without the list, for a range that every call judges: a power of two
+// The same of counts below 4,096, without the list, for a range that every call judges: a power of two
 // has one bit.
 fn not_one_bit(mode: Mode, prg: u16, chr: u16) -> bool
     ensures { λ r. ⌜ r ≡ notOneBit mode prg chr ⌝ }
@@ -304,7 +423,7 @@ fn not_one_bit(mode: Mode, prg: u16, chr: u16) -> bool
 }
 
 // Refusal 6. NROM and CNROM have no more than two blocks.
-fn bad_prg(mapper: u8, prg: u16) -> bool
+fn bad_prg(mapper: u16, prg: u16) -> bool
     ensures { λ r. ⌜ r ≡ badPrg mapper prg ⌝ }
 {
     (prg == 0) | (((mapper == 0) | (mapper == 3)) & (2 < prg))
@@ -324,8 +443,17 @@ pub enum Verdict {
 }
 
 // The first of the refusals that holds, in the order of a load.
-fn first_of(b9: bool, b3: bool, b4: bool, b5: bool, b6: bool, b7: bool, b8: bool) -> Verdict
-    ensures { λ r. ⌜ r ≡ firstOf b9 b3 b4 b5 b6 b7 b8 ⌝ }
+fn first_of(
+    b9: bool,
+    b3: bool,
+    b4: bool,
+    b5: bool,
+    b16: bool,
+    b6: bool,
+    b7: bool,
+    b8: bool,
+) -> Verdict
+    ensures { λ r. ⌜ r ≡ firstOf b9 b3 b4 b5 b16 b6 b7 b8 ⌝ }
 {
     if b9 {
         Verdict::Refuse(Refusal::RamNot8K)
@@ -335,6 +463,8 @@ fn first_of(b9: bool, b3: bool, b4: bool, b5: bool, b6: bool, b7: bool, b8: bool
         Verdict::Refuse(Refusal::MapperNotTaken)
     } else if b5 {
         Verdict::Refuse(Refusal::TrainerOrFourScreen)
+    } else if b16 {
+        Verdict::Refuse(Refusal::Nes2NotTaken)
     } else if b6 {
         Verdict::Refuse(Refusal::PrgCountNotTaken)
     } else if b7 {
@@ -349,9 +479,9 @@ fn first_of(b9: bool, b3: bool, b4: bool, b5: bool, b6: bool, b7: bool, b8: bool
 fn verdict_on(h: Header, ines: bool, len: usize, mode: Mode, rams: bool) -> Verdict
     ensures { λ r. ⌜ r ≡ verdictOn h ines len mode rams ⌝ }
 {
-    let mapper = h.mapper();
-    let prg = h.prg as u16;
-    let chr = h.chr as u16;
+    let mapper = h.mapper_in(mode);
+    let prg = h.prg_in(mode);
+    let chr = h.chr_in(mode);
     let short = len < (needed(prg, chr) as usize);
     let counts = no_powers(mode, prg, chr);
     first_of(
@@ -359,6 +489,7 @@ fn verdict_on(h: Header, ines: bool, len: usize, mode: Mode, rams: bool) -> Verd
         (len < 16400) | !ines,
         4 < mapper,
         h.is_special(),
+        h.nes2_not_taken(mode),
         bad_prg(mapper, prg),
         short,
         counts,
@@ -389,11 +520,12 @@ fn cartridge_of(h: Header, mode: Mode, len: usize) -> Cartridge
 {
     Cartridge {
         mode,
-        mapper: MapperType::numbered(h.mapper()),
+        mapper: MapperType::numbered(h.mapper_in(mode)),
         nes2: h.is_nes2(),
         mirroring: h.mirroring(),
-        prg: h.prg as u16,
-        chr: h.chr as u16,
+        prgram: h.has_prg_ram(mode),
+        prg: h.prg_in(mode),
+        chr: h.chr_in(mode),
         length: len,
     }
 }

@@ -3,7 +3,7 @@ use Prim.Native.Nat.{ℕ}
 use mathlib.Core.Bool.{Bool, true, false, cond}
 use lib.Dec.{eqb}
 use Rattle.common.specs.declared.Refusal.{Refusal}
-use Rattle.common.specs.declared.Refusal.the-variants.{HeaderTooShort, HeaderNotInes, ImageNotInes, MapperNotTaken, TrainerOrFourScreen, PrgCountNotTaken, ImageTooShort, CountNoPowerOfTwo, RamNot8K, StateOutOfRange, BankPastData, NoChrRam, NoSuchPlace, IrqPending, TraceMalformed}
+use Rattle.common.specs.declared.Refusal.the-variants.{HeaderTooShort, HeaderNotInes, ImageNotInes, MapperNotTaken, TrainerOrFourScreen, PrgCountNotTaken, ImageTooShort, CountNoPowerOfTwo, RamNot8K, StateOutOfRange, BankPastData, NoChrRam, NoSuchPlace, IrqPending, TraceMalformed, Nes2NotTaken}
 use Rattle.common.specs.declared.Mirroring.{Mirroring}
 use Rattle.common.specs.declared.Mirroring.the-variants.{Horizontal, Vertical, SingleScreenUpper, SingleScreenLower}
 
@@ -24,8 +24,10 @@ refusalNumber NoChrRam = 12
 refusalNumber NoSuchPlace = 13
 refusalNumber IrqPending = 14
 refusalNumber TraceMalformed = 15
+-- document 02, M-100
+refusalNumber Nes2NotTaken = 16
 
--- the refusal that the table has under a number from 1 to 15: definitions name refusals by it
+-- the refusal that the table has under a number from 1 to 16: definitions name refusals by it
 abbrev pub no : ℕ → Refusal
 no n =
     cond (eqb n 1) HeaderTooShort
@@ -41,7 +43,8 @@ no n =
     (cond (eqb n 11) BankPastData
     (cond (eqb n 12) NoChrRam
     (cond (eqb n 13) NoSuchPlace
-    (cond (eqb n 14) IrqPending TraceMalformed)))))))))))))
+    (cond (eqb n 14) IrqPending
+    (cond (eqb n 15) TraceMalformed Nes2NotTaken))))))))))))))
 
 -- trace: "a notice letter H, V, U (upper), L (lower)"
 abbrev pub mirroringLetter : Mirroring → ℕ

@@ -97,6 +97,7 @@ pub enum Refusal {
     NoSuchPlace,
     IrqPending,
     TraceMalformed,
+    Nes2NotTaken,
 }
 
 impl Refusal {
@@ -119,6 +120,7 @@ impl Refusal {
             Refusal::NoSuchPlace => 13,
             Refusal::IrqPending => 14,
             Refusal::TraceMalformed => 15,
+            Refusal::Nes2NotTaken => 16,
         }
     }
 }

@@ -55,14 +55,14 @@ module _ {mode : ℕ} {image : List ℕ} where
   inRattle x = record { prg = x .prg; chr = x .chr; accepted = accepted x; calls = x .calls }
 
   -- and the lent state at its end is the board that this one reaches
-  pub reached-holds : {k : MapperType} → LentImage k image → (x : History mode image) → Holds (reached x) (boards.reached (inRattle x))
+  pub reached-holds : {k : MapperType} → LentImage k mode image → (x : History mode image) → Holds (reached x) (boards.reached (inRattle x))
   reached-holds i x =
       run-holds
       (subst⁻¹ (Holds (x .loaded)) (started x)
       (after-load image mode (x .lent) (x .prg) (x .chr) 0 (x .loaded) (x .prg′) (x .chr′) (i .are-bytes) (i .of-a-length) (x .load-owes) refl))
       (x .calls) (x .write-bytes)
 
-an-image : {k : MapperType} {image : List ℕ} → LentImage k image → demand.ImageOf k image
+an-image : {k : MapperType} {mode : ℕ} {image : List ℕ} → LentImage k mode image → demand.ImageOf k (modeOf mode) image
 an-image i = record { mapper = i .mapper; prg-is-a-byte = i .are-bytes 4; chr-is-a-byte = i .are-bytes 5 }
 
 module _ {s : List ℕ} {b : Board} (h : Holds s b) where

@@ -130,16 +130,16 @@ write-bytes [] h = tt
 write-bytes (call l e ∷ cs) h = (a-byte e (and-left (written e) (allWritten cs) h), write-bytes cs (and-right (written e) (allWritten cs) h))
 
 -- an image, and calls for two boards, by tests that compute
-lent-image : (k : MapperType) (s : List ℕ) → ImageOf k s → allBytes s ≡ true → ltb (length s) 0x10000000000000000 ≡ true → LentImage k s
-lent-image k s i b n = record { mapper = i .mapper; are-bytes = are-bytes s b; of-a-length = ltb-true (length s) 0x10000000000000000 n }
+lent-image : (k : MapperType) (mode : ℕ) (s : List ℕ) → ImageOf k (modeOf mode) s → allBytes s ≡ true → ltb (length s) 0x10000000000000000 ≡ true → LentImage k mode s
+lent-image k mode s i b n = record { mapper = i .mapper; are-bytes = are-bytes s b; of-a-length = ltb-true (length s) 0x10000000000000000 n }
 
 same-bytes : (cs ds : List Call) → SameCalls cs ds → allWritten cs ≡ true → allWritten ds ≡ true → SameBytes cs ds
 same-bytes cs ds e f g = record { same-calls = e; first-bytes = write-bytes cs f; second-bytes = write-bytes ds g }
 
 -- MMC1: the histories of `SettlesMmc1Met`, as exported calls
-mmc1-image : LentImage Mmc1 images.mmc1
+mmc1-image : (mode : ℕ) → LentImage Mmc1 mode images.mmc1
 unfolding allBytes
-mmc1-image = lent-image Mmc1 images.mmc1 on-mmc1.met-image refl refl
+mmc1-image mode = lent-image Mmc1 mode images.mmc1 (on-mmc1.met-image (modeOf mode)) refl refl
 
 module _ (mode : ℕ) (is-mode : mode < 2) where
   pub used-bytes : WriteBytes (on-mmc1.used (modeOf mode) .calls)
@@ -156,9 +156,9 @@ module _ (mode : ℕ) (is-mode : mode < 2) where
   unfolding allWritten written
   mmc1-both =
       record {
-        of-mmc1 = mmc1-image;
-        first-accepts = clears (reached-holds mmc1-image fresh-mmc1) (on-mmc1.bit7 on-mmc1.lent) (omega arith) (on-mmc1.met-fresh (modeOf mode));
-        second-accepts = clears (reached-holds mmc1-image used-mmc1) (on-mmc1.bit7 on-mmc1.others) (omega arith) (on-mmc1.met-used (modeOf mode));
+        of-mmc1 = mmc1-image mode;
+        first-accepts = clears (reached-holds (mmc1-image mode) fresh-mmc1) (on-mmc1.bit7 on-mmc1.lent) (omega arith) (on-mmc1.met-fresh (modeOf mode));
+        second-accepts = clears (reached-holds (mmc1-image mode) used-mmc1) (on-mmc1.bit7 on-mmc1.others) (omega arith) (on-mmc1.met-used (modeOf mode));
         then-the-same-calls = same-bytes (on-mmc1.calls on-mmc1.lent) (on-mmc1.calls on-mmc1.others) refl refl refl;
       }
 
@@ -168,13 +168,13 @@ module _ (mode : ℕ) (is-mode : mode < 2) where
   met-mmc1 =
       exported-mmc1-settles fresh-mmc1 used-mmc1 (on-mmc1.bit7 on-mmc1.lent) (on-mmc1.bit7 on-mmc1.others) (on-mmc1.calls on-mmc1.lent) (on-mmc1.calls on-mmc1.others) mmc1-both .the-bytes-agree
       (subst⁻¹ (λ (b : Board). mmc1.Settled b (on-mmc1.calls on-mmc1.lent))
-      (holds-it (wrote-holds (reached-holds mmc1-image fresh-mmc1) (on-mmc1.bit7 on-mmc1.lent) (mmc1-both .first-accepts .accepted)))
+      (holds-it (wrote-holds (reached-holds (mmc1-image mode) fresh-mmc1) (on-mmc1.bit7 on-mmc1.lent) (mmc1-both .first-accepts .accepted)))
       (on-mmc1.met-settled (modeOf mode)))
 
 -- MMC3: the histories of `SettlesMmc3Met`, as exported calls
-mmc3-image : LentImage Mmc3 images.mmc3
+mmc3-image : (mode : ℕ) → LentImage Mmc3 mode images.mmc3
 unfolding allBytes
-mmc3-image = lent-image Mmc3 images.mmc3 on-mmc3.met-image refl refl
+mmc3-image mode = lent-image Mmc3 mode images.mmc3 (on-mmc3.met-image (modeOf mode)) refl refl
 
 module _ (mode : ℕ) (is-mode : mode < 2) where
   pub game-bytes : WriteBytes (on-mmc3.used (modeOf mode) .calls)
@@ -191,9 +191,9 @@ module _ (mode : ℕ) (is-mode : mode < 2) where
   unfolding allWritten written
   mmc3-both =
       record {
-        of-mmc3 = mmc3-image;
-        first-accepts = arms (reached-holds mmc3-image fresh-mmc3) (on-mmc3.arming on-mmc3.lent) (omega arith, omega arith, omega arith) (on-mmc3.met-fresh (modeOf mode));
-        second-accepts = arms (reached-holds mmc3-image used-mmc3) (on-mmc3.arming on-mmc3.others) (omega arith, omega arith, omega arith) (on-mmc3.met-used (modeOf mode));
+        of-mmc3 = mmc3-image mode;
+        first-accepts = arms (reached-holds (mmc3-image mode) fresh-mmc3) (on-mmc3.arming on-mmc3.lent) (omega arith, omega arith, omega arith) (on-mmc3.met-fresh (modeOf mode));
+        second-accepts = arms (reached-holds (mmc3-image mode) used-mmc3) (on-mmc3.arming on-mmc3.others) (omega arith, omega arith, omega arith) (on-mmc3.met-used (modeOf mode));
         one-latch = refl;
         then-the-same-calls = same-bytes (on-mmc3.calls on-mmc3.lent) (on-mmc3.calls on-mmc3.others) refl refl refl;
       }

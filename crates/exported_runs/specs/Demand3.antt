@@ -5,8 +5,9 @@ use mathlib.Core.Bool.{Bool, true, false}
 use mathlib.Core.List.{List, _∷_}
 use lib.Dec.{leb}
 use lib.ListN.{length, take}
-use Rattle.common.specs.Common.{isSigned}
-use Rattle.cartridge.specs.Header.{mapperOf, headerOf}
+use Rattle.common.specs.Common.{isSigned, modeOf}
+use Rattle.cartridge.specs.Header.{headerOf}
+use Rattle.cartridge.specs.Nes2.{mapperIn}
 use Rattle.cartridge.specs.Mappers.{mapperType}
 use Rattle.cartridge.specs.declared.MapperType.{MapperType}
 use Rattle.cartridge.specs.declared.MapperType.the-variants.{Mmc1, Mmc3}
@@ -25,9 +26,9 @@ use Rattle.exports.specs.Calls.{LoadOwes}
 use Rattle.exports.specs.RoundTrip.{AreBytes}
 use Rattle.exported_runs.specs.Runs.{number, nextState, stateAfter, numbers, played, ended, clockNumbers, WriteBytes}
 
--- a lent image of this mapper: bytes, of a length that a usize holds
-pub record LentImage (k : MapperType) (image : List ℕ) : Type 0 where
-  pub mapper : mapperType (mapperOf (headerOf image)) ≡ k
+-- a lent image that has this mapper in a mode: bytes, of a length that a usize holds
+pub record LentImage (k : MapperType) (mode : ℕ) (image : List ℕ) : Type 0 where
+  pub mapper : mapperType (mapperIn (modeOf mode) (headerOf image)) ≡ k
   pub are-bytes : AreBytes image
   pub of-a-length : length image < 0x10000000000000000
 
@@ -74,7 +75,7 @@ pub record SameBytes (cs ds : List Call) : Type 0 where
 
 -- MMC1: the two states both accept a bit 7 write, then get the same calls
 pub record BothCleared {mode : ℕ} {image : List ℕ} (x y : History mode image) (w u : LentWrite) (cs ds : List Call) : Type 0 where
-  pub of-mmc1 : LentImage Mmc1 image
+  pub of-mmc1 : LentImage Mmc1 mode image
   pub first-accepts : Clears w (reached x)
   pub second-accepts : Clears u (reached y)
   pub then-the-same-calls : SameBytes cs ds
@@ -109,7 +110,7 @@ pub record Accepts (s : List ℕ) (w : Arming) : Type 0 where
 
 -- MMC3: the two states both accept the same latch, reload and enable; after them come the clock and the same calls
 pub record BothArmed {mode : ℕ} {image : List ℕ} (x y : History mode image) (w u : Arming) (cs ds : List Call) : Type 0 where
-  pub of-mmc3 : LentImage Mmc3 image
+  pub of-mmc3 : LentImage Mmc3 mode image
   pub first-accepts : Accepts (reached x) w
   pub second-accepts : Accepts (reached y) u
   pub one-latch : w .latch .byte ≡ u .latch .byte

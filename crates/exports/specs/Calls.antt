@@ -24,7 +24,7 @@ use Rattle.states.specs.Words.{wordsOf, digitsOf}
 use Rattle.exports.specs.Numbers.{refused, readNumber, writeNumber, clockNumber, loadNumber, movedNumber, headerNumber, fieldsAfter}
 use Rattle.exports.specs.Bytes.{wordsIn, boardIn, isState, isStateFor, stateLeft}
 
--- load: "9, 10 (`state` is not 40 bytes, or `mode` is neither 0 house nor 1 board), 3, 4, 5, 6, 7, 8"
+-- load: "9, 10 (`state` is not 40 bytes, or `mode` is neither 0 house nor 1 board), 3, 4, 5, 16, 6, 7, 8"
 abbrev pub decision : List ℕ → ℕ → ℕ → ℕ → ℕ → decided.Verdict
 decision image mode s prg chr =
     cond (ramsFit prg chr)

@@ -428,5 +428,5 @@ pub extern "C" fn biekkarul_header(image: &[u8], fields: &mut [u8]) -> u16
 pub extern "C" fn biekkarul_version() -> u32
     ensures { λ r. ⌜ r ≡ version ⌝ }
 {
-    2
+    3
 }

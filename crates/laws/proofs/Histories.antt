@@ -8,7 +8,8 @@ use native.Mathlib.Omega.{arith}
 use lib.ListN.{length}
 use Rattle.common.specs.declared.Mode.{Mode}
 use Rattle.memory.specs.Memory.{byte}
-use Rattle.cartridge.specs.Header.{mapperOf, headerOf}
+use Rattle.cartridge.specs.Header.{headerOf}
+use Rattle.cartridge.specs.Nes2.{mapperIn}
 use Rattle.cartridge.specs.Load.{verdict, cartridgeOf, loadedAs}
 use Rattle.cartridge.specs.Mappers.{mapperType}
 use Rattle.cartridge.specs.declared.Cartridge.{Cartridge}
@@ -48,11 +49,11 @@ module _ (mode : Mode) (s : List ℕ) (prg-byte : byte s 4 < 256) (chr-byte : by
       run-in-range (loadWith mode s (h .prg) (h .chr) .board) (h .calls)
       (loaded-in-range s mode (length (h .prg)) (length (h .chr)) prg-byte chr-byte (h .accepted))
 
-  mapper-of : (h : History mode s) → reached h .cart .mapper ≡ mapperType (mapperOf (headerOf s))
+  mapper-of : (h : History mode s) → reached h .cart .mapper ≡ mapperType (mapperIn mode (headerOf s))
   unfolding cartridgeOf
   mapper-of h = ap (λ (c : Cartridge). c .mapper) (cart-of h)
 
   -- the image's bytes 4 and 5 are bytes, and its mapper is k
-  pub any-two-histories : (k : MapperType) → mapperType (mapperOf (headerOf s)) ≡ k → (x y : History mode s) → OneImage k (reached x) (reached y)
+  pub any-two-histories : (k : MapperType) → mapperType (mapperIn mode (headerOf s)) ≡ k → (x y : History mode s) → OneImage k (reached x) (reached y)
   any-two-histories k e x y =
       record { cart = cart-of x ∙ sym (cart-of y); mapper = mapper-of x ∙ e; first = in-range x; second = in-range y }

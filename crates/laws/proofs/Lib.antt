@@ -12,6 +12,7 @@ mod Arming
 pub mod PLines
 pub mod Numbers
 pub mod FurtherRows
+pub mod Nes2Rows
 pub mod Clocks
 pub mod PublicClocks
 pub mod ThreeWrites
@@ -30,6 +31,7 @@ pub mod Demand3
 pub mod SettlesMmc1Met
 pub mod SettlesMmc3Met
 pub mod ControlBit4
+pub mod AsBefore
 pub mod Mark
 pub mod OutOfRange
 pub mod AfterRefusal

@@ -1,57 +1,36 @@
 -- A cartridge in range is left by the load of an image with its fields: no refusal is due, and its header's bytes lead back to each field. So a cartridge is in
 -- range exactly when some image of bytes leaves it. Assumes nothing.
 use Prim.Native.Nat.{ℕ, zero, suc, _+_, _-_, _*_, _/_, _%_, _≤_, _<_}
-use mathlib.Core.Path.{_≡_, refl, ap, ap₂, _∙_, subst}
+use mathlib.Core.Path.{_≡_, refl, sym, ap, ap₂, _∙_, subst}
 use mathlib.Core.Logic.{_↔_}
 use mathlib.Core.Bool.{Bool, true, false, false≢true, cond, not, _&&_, _||_}
 use mathlib.Core.List.{List, [], _∷_}
 use native.Mathlib.Omega.{arith}
-use lib.Dec.{ltb, leb, eqb}
+use lib.Dec.{ltb, eqb}
 use lib.ListN.{length, length-replicate, replicate}
-use borrow.Author.Tests.{ltb-true, leb-true, eqb-false, le-ltb, not-true}
-use Rattle.rules.proofs.Bools.{and-left, and-right, split-3}
-use Rattle.common.specs.Common.{KB8, KB16}
+use borrow.Author.Tests.{eqb-false, le-ltb, ne-eqb}
 use Rattle.common.specs.Answers.{isHeaders, among}
 use Rattle.common.specs.declared.Mode.{Mode}
+use Rattle.common.specs.declared.Mode.the-variants.{House, Board as OnBoard}
 use Rattle.common.specs.declared.Mirroring.{Mirroring}
 use Rattle.common.specs.declared.Mirroring.the-variants.{Horizontal, Vertical, SingleScreenUpper, SingleScreenLower}
 use Rattle.memory.specs.Memory.{byte}
-use Rattle.cartridge.specs.Header.{isInes, headerOf, mapperOf, mirroringOf, isNes2, isSpecial}
-use Rattle.cartridge.specs.Load.{badPrg, noPowers, needed, couldLoad, ramsFit, verdict, cartridgeOf, loadedAs, load}
+use Rattle.cartridge.specs.Header.{isInes, headerOf, mirroringOf, isSpecial}
+use Rattle.cartridge.specs.Nes2.{isNes2In, extended, mapperIn, prgIn, chrIn, hasSubmapper, hasExponent, isShifts, saysOtherwise, nes2NotTaken, hasPrgRam}
+use Rattle.cartridge.specs.Load.{badPrg, noPowers, needed, hasChrRam, countsEnd, prgRamFits, couldLoad, ramsFit, verdict, cartridgeOf, loadedAs}
 use Rattle.cartridge.specs.Mappers.{mapperNumber, mapperType}
 use Rattle.cartridge.specs.declared.Cartridge.{Cartridge}
+use Rattle.cartridge.specs.declared.Header.{Header}
 use Rattle.cartridge.specs.declared.MapperType.{MapperType}
 use Rattle.cartridge.specs.declared.MapperType.the-variants.{Nrom, Mmc1, Uxrom, Cnrom, Mmc3}
 use Rattle.cartridge.specs.declared.Loaded.the-variants.{Accepted}
 use Rattle.cartridge.specs.declared.Verdict.{Verdict}
 use Rattle.cartridge.specs.declared.Verdict.the-variants.{Take, Refuse}
 use Rattle.cartridge.proofs.Mappers.{by-number}
+use Rattle.cartridge.proofs.Range.{Fields, fields, counts-small}
 use Rattle.cartridge.specs.Steps.{firstOf}
 use Rattle.laws.proofs.Ranges.{could-load}
-use Rattle.laws.specs.Loadable.{byte6, byte7, imageFor, Leaves}
-
--- what the range says of the fields
-record Fields (c : Cartridge) : Type 0 where
-  counts : badPrg (mapperNumber (c .mapper)) (c .prg) ≡ false
-  powers : noPowers (c .mode) (c .prg) (c .chr) ≡ false
-  prg-small : c .prg < 256
-  chr-small : c .chr < 256
-  room : needed (c .prg) (c .chr) ≤ c .length
-  headers : isHeaders (c .mirroring) ≡ true
-
-fields : (c : Cartridge) → couldLoad c ≡ true → Fields c
-unfolding couldLoad
-fields c h =
-    let p = split-3 (not (badPrg (mapperNumber (c .mapper)) (c .prg)) && not (noPowers (c .mode) (c .prg) (c .chr))) (ltb (c .prg) 256 && ltb (c .chr) 256 && leb (needed (c .prg) (c .chr)) (c .length)) (isHeaders (c .mirroring)) h in
-    let q = split-3 (ltb (c .prg) 256) (ltb (c .chr) 256) (leb (needed (c .prg) (c .chr)) (c .length)) (p .1) in
-    record {
-      counts = not-true (badPrg (mapperNumber (c .mapper)) (c .prg)) (and-left (not (badPrg (mapperNumber (c .mapper)) (c .prg))) (not (noPowers (c .mode) (c .prg) (c .chr))) (p .0));
-      powers = not-true (noPowers (c .mode) (c .prg) (c .chr)) (and-right (not (badPrg (mapperNumber (c .mapper)) (c .prg))) (not (noPowers (c .mode) (c .prg) (c .chr))) (p .0));
-      prg-small = ltb-true (c .prg) 256 (q .0);
-      chr-small = ltb-true (c .chr) 256 (q .1);
-      room = leb-true (needed (c .prg) (c .chr)) (c .length) (q .2);
-      headers = p .2;
-    }
+use Rattle.laws.specs.Loadable.{byte6, byte7, byte9, shifts, imageFor, Leaves}
 
 or-left : (x y : Bool) → (x || y) ≡ false → x ≡ false
 or-left true y e = e
@@ -93,19 +72,124 @@ number-small Uxrom = omega arith
 number-small Cnrom = omega arith
 number-small Mmc3 = omega arith
 
-none-due : (b9 b3 b4 b5 b6 b7 b8 : Bool) → b9 ≡ false → b3 ≡ false → b4 ≡ false → b5 ≡ false → b6 ≡ false → b7 ≡ false → b8 ≡ false → firstOf b9 b3 b4 b5 b6 b7 b8 ≡ Take
+-- byte 9 leads back to both counts, and neither nibble is 15
+low-nibble : (p c : ℕ) → p < 4096 → (p / 256 + c / 256 * 16) % 16 ≡ p / 256
+low-nibble p c h = omega (arith, h)
+
+high-nibble : (p c : ℕ) → p < 4096 → (p / 256 + c / 256 * 16) / 16 ≡ c / 256
+high-nibble p c h = omega (arith, h)
+
+shifts-taken : (t : Bool) → isShifts (shifts t) ≡ true
+unfolding isShifts
+shifts-taken true = refl
+shifts-taken false = refl
+
+shifts-back : (t : Bool) → not (eqb (shifts t) 0) ≡ t
+shifts-back true = refl
+shifts-back false = refl
+
+shifts-small : (t : Bool) → shifts t < 256
+shifts-small true = omega arith
+shifts-small false = omega arith
+
+said : (chr : ℕ) → saysOtherwise chr (shifts (eqb chr 0)) ≡ false
+unfolding saysOtherwise
+said chr = go (eqb chr 0)
+  where
+    go : (t : Bool) → ((t && eqb (shifts t) 0) || (not t && not (eqb (shifts t) 0))) ≡ false
+    go true = refl
+    go false = refl
+
+none-due : (b9 b3 b4 b5 b16 b6 b7 b8 : Bool) → b9 ≡ false → b3 ≡ false → b4 ≡ false → b5 ≡ false → b16 ≡ false → b6 ≡ false → b7 ≡ false → b8 ≡ false → firstOf b9 b3 b4 b5 b16 b6 b7 b8 ≡ Take
 unfolding firstOf
-none-due b9 b3 b4 b5 b6 b7 b8 e9 e3 e4 e5 e6 e7 e8 = rw (e9, e3, e4, e5, e6, e7, e8) refl
+none-due b9 b3 b4 b5 b16 b6 b7 b8 e9 e3 e4 e5 e16 e6 e7 e8 = rw (e9, e3, e4, e5, e16, e6, e7, e8) refl
 
 module _ (c : Cartridge) (f : Fields c) where
+  abbrev h : Header
+  h = headerOf (imageFor c)
+
+  -- whether the image is read as NES 2.0
+  abbrev nes2 : Bool
+  nes2 = isNes2In (c .mode) (c .nes2)
+
   long : 16400 ≤ c .length
-  long = let p = some-prg (mapperNumber (c .mapper)) (c .prg) (f .counts) in let r = f .room in omega arith
+  long = let s = some-prg (mapperNumber (c .mapper)) (c .prg) (f .prg-taken) in let r = f .room in omega arith
 
   its-length : length (imageFor c) ≡ c .length
-  its-length = let n : length {A = ℕ} (replicate (c .length - 16) 0) ≡ c .length - 16 = length-replicate {A = ℕ} (c .length - 16) 0 in let l = long in omega arith
+  its-length = let r = length-replicate {A = ℕ} (c .length - 16) 0 in let l = long in omega arith
 
-  its-mapper : byte7 c / 16 * 16 + byte6 c / 16 ≡ mapperNumber (c .mapper)
-  its-mapper = let b = bit-small (c .mirroring) in let m = mark-low (c .nes2) in omega arith
+  read-so : extended (c .mode) h ≡ nes2
+  unfolding headerOf
+  read-so = ap (isNes2In (c .mode)) (mark-back (c .nes2))
+
+  -- both counts: within 2,048 where the image is read so, else bytes
+  abbrev Counted : Bool → Type 0
+  Counted t = (c .prg < cond t 2049 256) × (c .chr < cond t 2049 256)
+
+  counted : Counted nes2
+  unfolding isNes2In countsEnd
+  counted = go (c .mode) (c .nes2) refl refl
+    where
+      go : (m : Mode) (t : Bool) → c .mode ≡ m → c .nes2 ≡ t → Counted nes2
+      go House t e g = rw (e) (subst (λ (m : Mode). c .prg < countsEnd m (c .nes2)) e (f .prg-small), subst (λ (m : Mode). c .chr < countsEnd m (c .nes2)) e (f .chr-small))
+      go OnBoard false e g = rw (e, g) (
+        subst (λ (m : Bool). c .prg < countsEnd OnBoard m) g (subst (λ (m : Mode). c .prg < countsEnd m (c .nes2)) e (f .prg-small)),
+        subst (λ (m : Bool). c .chr < countsEnd OnBoard m) g (subst (λ (m : Mode). c .chr < countsEnd m (c .nes2)) e (f .chr-small)),
+      )
+      go OnBoard true e g =
+          let s = counts-small (c .prg) (c .chr) (subst (λ (m : Mode). noPowers m (c .prg) (c .chr) ≡ false) e (f .powers)) in
+          rw (e, g) (omega (arith, s .0), omega (arith, s .1))
+
+  -- the numbers that the header says
+  its-mapper : mapperIn (c .mode) h ≡ mapperNumber (c .mapper)
+  unfolding mapperIn headerOf
+  its-mapper =
+      let b = bit-small (c .mirroring) in let m = mark-low (c .nes2) in
+      let l : byte7 c / 16 * 16 + byte6 c / 16 ≡ mapperNumber (c .mapper) = omega arith in
+      go (extended (c .mode) h) l
+    where
+      go : (t : Bool) → byte7 c / 16 * 16 + byte6 c / 16 ≡ mapperNumber (c .mapper) → cond t (byte7 c / 16 * 16 + byte6 c / 16 + 0 * 256) (byte7 c / 16 * 16 + byte6 c / 16) ≡ mapperNumber (c .mapper)
+      go true e = omega (arith, e)
+      go false e = e
+
+  its-prg : prgIn (c .mode) h ≡ c .prg
+  unfolding prgIn headerOf
+  its-prg = ap (λ (t : Bool). cond t (c .prg % 256 + byte9 c % 16 * 256) (c .prg % 256)) read-so ∙ go nes2 counted
+    where
+      go : (t : Bool) → Counted t → cond t (c .prg % 256 + byte9 c % 16 * 256) (c .prg % 256) ≡ c .prg
+      go true n = let l = low-nibble (c .prg) (c .chr) (omega (arith, n .0)) in omega (arith, l)
+      go false n = omega (arith, n .0)
+
+  its-chr : chrIn (c .mode) h ≡ c .chr
+  unfolding chrIn headerOf
+  its-chr = ap (λ (t : Bool). cond t (c .chr % 256 + byte9 c / 16 * 256) (c .chr % 256)) read-so ∙ go nes2 counted
+    where
+      go : (t : Bool) → Counted t → cond t (c .chr % 256 + byte9 c / 16 * 256) (c .chr % 256) ≡ c .chr
+      go true n = let l = high-nibble (c .prg) (c .chr) (omega (arith, n .0)) in omega (arith, l)
+      go false n = omega (arith, n .1)
+
+  all-taken : nes2NotTaken (c .mode) h ≡ false
+  unfolding nes2NotTaken hasSubmapper hasExponent headerOf
+  all-taken =
+      ap₂ (λ (t : Bool) (n : ℕ). t && (false || (eqb (byte9 c % 16) 15 || eqb (byte9 c / 16) 15) || not (isShifts (shifts (c .prgram))) || not (isShifts (shifts (hasChrRam c))) || saysOtherwise n (shifts (hasChrRam c)))) read-so its-chr
+      ∙ go nes2 counted
+    where
+      go : (t : Bool) → Counted t → (t && (false || (eqb (byte9 c % 16) 15 || eqb (byte9 c / 16) 15) || not (isShifts (shifts (c .prgram))) || not (isShifts (shifts (hasChrRam c))) || saysOtherwise (c .chr) (shifts (hasChrRam c)))) ≡ false
+      go true n =
+          let l = low-nibble (c .prg) (c .chr) (omega (arith, n .0)) in
+          let m = high-nibble (c .prg) (c .chr) (omega (arith, n .0)) in
+          rw (ne-eqb (byte9 c % 16) 15 (λ e. omega (arith, e, l, n .0)), ne-eqb (byte9 c / 16) 15 (λ e. omega (arith, e, m, n .1)), shifts-taken (c .prgram), shifts-taken (hasChrRam c), said (c .chr)) refl
+      go false n = refl
+
+  its-ram : hasPrgRam (c .mode) h ≡ c .prgram
+  unfolding hasPrgRam prgRamFits headerOf
+  its-ram =
+      ap₂ (λ (t x : Bool). cond t x true) read-so (shifts-back (c .prgram)) ∙ go nes2 (c .prgram) (f .noted)
+    where
+      go : (t x : Bool) → (x || t) ≡ true → cond t x true ≡ x
+      go true x e = refl
+      go false true e = refl
+      go false false e = sym e
 
   plain : byte6 c / 4 % 4 ≡ 0
   plain = let b = bit-small (c .mirroring) in omega arith
@@ -116,15 +200,15 @@ module _ (c : Cartridge) (f : Fields c) where
   taken : verdict (imageFor c) (c .mode) 8192 8192 ≡ Take
   unfolding verdict firstOf ramsFit isInes headerOf
   taken =
-      let h = headerOf (imageFor c) in
-      none-due (not (ramsFit 8192 8192)) (ltb (length (imageFor c)) 16400 || not (isInes (imageFor c))) (ltb 4 (mapperOf h)) (isSpecial h) (badPrg (mapperOf h) (h .prg)) (ltb (length (imageFor c)) (needed (h .prg) (h .chr))) (noPowers (c .mode) (h .prg) (h .chr))
+      none-due (not (ramsFit 8192 8192)) (ltb (length (imageFor c)) 16400 || not (isInes (imageFor c))) (ltb 4 (mapperIn (c .mode) h)) (isSpecial h) (nes2NotTaken (c .mode) h) (badPrg (mapperIn (c .mode) h) (prgIn (c .mode) h)) (ltb (length (imageFor c)) (needed (prgIn (c .mode) h) (chrIn (c .mode) h))) (noPowers (c .mode) (prgIn (c .mode) h) (chrIn (c .mode) h))
       refl
       (rw (its-length, le-ltb (c .length) 16400 long) refl)
       (rw its-mapper (le-ltb 4 (mapperNumber (c .mapper)) (number-small (c .mapper))))
       (rw plain refl)
-      (rw its-mapper (f .counts))
-      (rw its-length (le-ltb (c .length) (needed (c .prg) (c .chr)) (f .room)))
-      (f .powers)
+      all-taken
+      (ap₂ badPrg its-mapper its-prg ∙ f .prg-taken)
+      (ap₂ ltb its-length (ap₂ needed its-prg its-chr) ∙ le-ltb (c .length) (needed (c .prg) (c .chr)) (f .room))
+      (ap₂ (noPowers (c .mode)) its-prg its-chr ∙ f .powers)
 
   back : cartridgeOf (headerOf (imageFor c)) (c .mode) (length (imageFor c)) ≡ c
   unfolding cartridgeOf headerOf mirroringOf
@@ -134,8 +218,9 @@ module _ (c : Cartridge) (f : Fields c) where
         mapper = (ap mapperType its-mapper ∙ by-number (c .mapper)) i;
         nes2 = mark-back (c .nes2) i;
         mirroring = (ap (λ (b : ℕ). cond (eqb b 1) Vertical Horizontal) its-bit ∙ bit-back (c .mirroring) (f .headers)) i;
-        prg = c .prg;
-        chr = c .chr;
+        prgram = its-ram i;
+        prg = its-prg i;
+        chr = its-chr i;
         length = its-length i;
       }
 
@@ -155,12 +240,17 @@ unfolding Bytes
 zeros zero = tt
 zeros (suc n) = (omega arith, zeros n)
 
+nine-small : (t : Bool) (p c : ℕ) → p < cond t 2049 256 → c < cond t 2049 256 → p / 256 + c / 256 * 16 < 256
+nine-small true p c l m = omega (arith, l, m)
+nine-small false p c l m = omega (arith, l, m)
+
 -- such are the bytes of its image
 its-bytes : (c : Cartridge) → Fields c → Bytes (imageFor c)
 unfolding Bytes
 its-bytes c f =
     let six : byte6 c < 256 = let b = bit-small (c .mirroring) in let k = number-small (c .mapper) in omega arith in
     let seven : byte7 c < 256 = mark-small (c .nes2) in
+    let nine : byte9 c < 256 = let n = counted c f in nine-small (isNes2In (c .mode) (c .nes2)) (c .prg) (c .chr) (n .0) (n .1) in
     let zero : 0 < 256 = omega arith in (
       omega arith,
       (
@@ -170,14 +260,14 @@ its-bytes c f =
           (
             omega arith,
             (
-              f .prg-small,
+              omega arith,
               (
-                f .chr-small,
+                omega arith,
                 (
                   six,
                   (
                     seven,
-                    (zero, (zero, (zero, (zero, (zero, (zero, (zero, (zero, zeros (c .length - 16))))))))),
+                    (zero, (nine, (shifts-small (c .prgram), (shifts-small (hasChrRam c), (zero, (zero, (zero, (zero, zeros (c .length - 16))))))))),
                   ),
                 ),
               ),

@@ -1,6 +1,6 @@
 -- On an MMC1 board an event leaves what its move makes, and two boards with one serial register make the same moves. Assumes nothing.
 use Prim.Native.Nat.{ℕ}
-use mathlib.Core.Path.{_≡_, refl, sym, ap, ap₂, _∙_, subst⁻¹}
+use mathlib.Core.Path.{_≡_, refl, sym, ap, ap₂, _∙_}
 use mathlib.Core.Bool.{Bool, true, false, cond, _&&_}
 use native.Mathlib.Omega.{arith}
 use Rattle.rules.proofs.Bools.{either}
@@ -10,7 +10,7 @@ use Rattle.cartridge.specs.Mappers.{isMapper}
 use Rattle.cartridge.specs.declared.Cartridge.{Cartridge}
 use Rattle.cartridge.specs.declared.MapperType.{MapperType}
 use Rattle.cartridge.specs.declared.MapperType.the-variants.{Mmc1}
-use Rattle.places.specs.Windows.{landsIn, houseChr, inWindows}
+use Rattle.places.specs.Windows.{landsIn, houseChr, prgRamOf, inWindows}
 use Rattle.places.specs.Windows.Window.{Empty}
 use Rattle.places.specs.declared.Landing.{Landing}
 use Rattle.mmc1.specs.Read as mmc1
@@ -161,7 +161,7 @@ module _ {b d : Board} (r : Common b d) where
   landing-alike House e a =
       ap isAccepted
       (lands-there House b (r .one .mapper) e a
-      ∙ ap (λ (c : Cartridge). landsIn c (inWindows (houseChr c) Empty a) a) (r .one .cart)
+      ∙ ap (λ (c : Cartridge). landsIn c (inWindows (houseChr c) (prgRamOf c) Empty a) a) (r .one .cart)
       ∙ sym (lands-there House d (swapped (r .one) .mapper) (ap (λ (c : Cartridge). c .mode) (sym (r .one .cart)) ∙ e) a))
   landing-alike OnBoard e a = board-alike (r .one) e a
 

@@ -8,7 +8,8 @@ use lib.Dec.{ltb}
 use lib.ListN.{length}
 use Rattle.common.specs.declared.Mode.{Mode}
 use Rattle.cartridge.specs.Refusals.{given, first}
-use Rattle.cartridge.specs.Header.{isInes, headerOf, mapperOf, isSpecial, headerRefusals, headerAs, headerRead}
+use Rattle.cartridge.specs.Header.{isInes, headerOf, isSpecial, headerRefusals, headerAs, headerRead}
+use Rattle.cartridge.specs.Nes2.{mapperIn, prgIn, chrIn, nes2NotTaken}
 use Rattle.cartridge.specs.Load.{badPrg, needed, noPowers, ramsFit, loadRefusals, verdict, cartridgeOf, loadedAs}
 use Rattle.cartridge.specs.declared.Cartridge.{Cartridge}
 use Rattle.cartridge.specs.declared.Header.{Header}
@@ -23,26 +24,27 @@ use Rattle.boards.specs.Clock.{clock}
 use Rattle.boards.specs.declared.Board.{Board}
 use Rattle.laws.specs.Numbers.{firstNumber, answerOf}
 
-seven : (c : Cartridge) (b9 b3 b4 b5 b6 b7 b8 : Bool)
-    → loadNumber (loadedBoard (loadedAs (first (given 9 b9 ∷ given 3 b3 ∷ given 4 b4 ∷ given 5 b5 ∷ given 6 b6 ∷ given 7 b7 ∷ given 8 b8 ∷ [])) c) .answer)
-    ≡ answerOf (firstNumber (given 9 b9 ∷ given 3 b3 ∷ given 4 b4 ∷ given 5 b5 ∷ given 6 b6 ∷ given 7 b7 ∷ given 8 b8 ∷ []))
+eight : (c : Cartridge) (b9 b3 b4 b5 b16 b6 b7 b8 : Bool)
+    → loadNumber (loadedBoard (loadedAs (first (given 9 b9 ∷ given 3 b3 ∷ given 4 b4 ∷ given 5 b5 ∷ given 16 b16 ∷ given 6 b6 ∷ given 7 b7 ∷ given 8 b8 ∷ [])) c) .answer)
+    ≡ answerOf (firstNumber (given 9 b9 ∷ given 3 b3 ∷ given 4 b4 ∷ given 5 b5 ∷ given 16 b16 ∷ given 6 b6 ∷ given 7 b7 ∷ given 8 b8 ∷ []))
 unfolding loadNumber refused loadedBoard loadedAs
-seven c true b3 b4 b5 b6 b7 b8 = refl
-seven c false true b4 b5 b6 b7 b8 = refl
-seven c false false true b5 b6 b7 b8 = refl
-seven c false false false true b6 b7 b8 = refl
-seven c false false false false true b7 b8 = refl
-seven c false false false false false true b8 = refl
-seven c false false false false false false true = refl
-seven c false false false false false false false = refl
+eight c true b3 b4 b5 b16 b6 b7 b8 = refl
+eight c false true b4 b5 b16 b6 b7 b8 = refl
+eight c false false true b5 b16 b6 b7 b8 = refl
+eight c false false false true b16 b6 b7 b8 = refl
+eight c false false false false true b6 b7 b8 = refl
+eight c false false false false false true b7 b8 = refl
+eight c false false false false false false true b8 = refl
+eight c false false false false false false false true = refl
+eight c false false false false false false false false = refl
 
--- "Order in load: 9, 3, 4, 5, 6, 7, 8"
+-- "Order in load: 9, 3, 4, 5, 6, 7, 8", with 16 "after 5 and before 6"
 pub a-load-answers-the-first-number : (s : List ℕ) (mode : Mode) (prg chr : ℕ) → loadNumber (load s mode prg chr .answer) ≡ answerOf (firstNumber (loadRefusals s mode prg chr))
 unfolding verdict
 a-load-answers-the-first-number s mode prg chr =
     let h = headerOf s in
-    seven (cartridgeOf h mode (length s)) (not (ramsFit prg chr)) (ltb (length s) 16400 || not (isInes s)) (ltb 4 (mapperOf h)) (isSpecial h)
-    (badPrg (mapperOf h) (h .prg)) (ltb (length s) (needed (h .prg) (h .chr))) (noPowers mode (h .prg) (h .chr))
+    eight (cartridgeOf h mode (length s)) (not (ramsFit prg chr)) (ltb (length s) 16400 || not (isInes s)) (ltb 4 (mapperIn mode h)) (isSpecial h) (nes2NotTaken mode h)
+    (badPrg (mapperIn mode h) (prgIn mode h)) (ltb (length s) (needed (prgIn mode h) (chrIn mode h))) (noPowers mode (prgIn mode h) (chrIn mode h))
 
 two : (h : Header) (b1 b2 : Bool) → headerNumber (headerAs (first (given 1 b1 ∷ given 2 b2 ∷ [])) h) ≡ answerOf (firstNumber (given 1 b1 ∷ given 2 b2 ∷ []))
 unfolding headerNumber headerAs refused

@@ -1,14 +1,14 @@
 -- Ranges are kept: the board that a load gives is in range, and so is the board after any call, so no run of calls is ever refused by 10 for its state.
 -- Assumes nothing.
 use Prim.Native.Nat.{ℕ, zero, suc, _%_, _<_, _≤_}
-use mathlib.Core.Path.{_≡_, refl, sym, ap, _∙_, subst⁻¹}
+use mathlib.Core.Path.{_≡_, refl, sym, ap, _∙_, subst, subst⁻¹}
 use mathlib.Core.Bool.{Bool, true, false, false≢true, cond, not, _&&_, _||_}
 use mathlib.Core.List.{List, [], _∷_}
 use native.Mathlib.Omega.{arith}
-use lib.Dec.{ltb, leb, eqb}
+use lib.Dec.{ltb, eqb}
 use lib.ListN.{length}
-use borrow.Author.Tests.{ltb-true, ltb-false, leb-true, lt-ltb, le-leb, eq-eqb}
-use Rattle.rules.proofs.Bools.{and-right, and-both, split-3, split-4, either}
+use borrow.Author.Tests.{ltb-false, lt-ltb, eq-eqb}
+use Rattle.rules.proofs.Bools.{and-both, split-3, split-4, either}
 use Rattle.common.specs.Answers.{same, isHeaders}
 use Rattle.common.proofs.Answers.{same-self}
 use Rattle.common.specs.declared.Mode.{Mode}
@@ -17,15 +17,19 @@ use Rattle.common.specs.declared.Mirroring.{Mirroring}
 use Rattle.common.specs.declared.Mirrors.{Mirrors}
 use Rattle.common.specs.declared.Mirrors.the-variants.{AsBefore, As}
 use Rattle.memory.specs.Memory.{byte}
-use Rattle.cartridge.specs.Header.{headerOf, isInes, mapperOf, isSpecial, mirroringOf}
-use Rattle.cartridge.specs.Load.{badPrg, noPowers, needed, couldLoad, ramsFit, verdict, cartridgeOf, loadedAs}
+use Rattle.cartridge.specs.Header.{headerOf, isInes, isNes2, isSpecial, mirroringOf}
+use Rattle.cartridge.specs.Nes2.{isNes2In, extended, mapperIn, prgIn, chrIn, nes2NotTaken, hasPrgRam}
+use Rattle.cartridge.specs.Load.{badPrg, noPowers, needed, countsEnd, prgRamFits, couldLoad, ramsFit, verdict, cartridgeOf, loadedAs}
 use Rattle.cartridge.specs.Steps.{firstOf}
 use Rattle.cartridge.specs.Mappers.{mapperNumber, isMapper, mapperType}
 use Rattle.cartridge.specs.declared.Cartridge.{Cartridge}
+use Rattle.cartridge.specs.declared.Header.{Header}
 use Rattle.cartridge.specs.declared.MapperType.{MapperType}
 use Rattle.cartridge.specs.declared.MapperType.the-variants.{Nrom, Mmc1, Uxrom, Cnrom, Mmc3}
 use Rattle.cartridge.specs.declared.Verdict.{Verdict}
 use Rattle.cartridge.specs.declared.Verdict.the-variants.{Take, Refuse}
+use Rattle.cartridge.proofs.Nes2.{plain-prg, plain-chr}
+use Rattle.cartridge.proofs.Range.{fields, in-range as cart-in-range, counts-small}
 use Rattle.uxrom.specs.Uxrom as uxrom
 use Rattle.cnrom.specs.Cnrom as cnrom
 use Rattle.cnrom.specs.declared.Cnrom as cnrom-type
@@ -50,6 +54,7 @@ use Rattle.boards.specs.declared.Registers.{Registers}
 use Rattle.boards.specs.declared.Ticked.{Ticked}
 use Rattle.boards.specs.declared.Clocked.{Clocked}
 use Rattle.boards.specs.declared.LoadAnswer.the-variants.{Accepted}
+use Rattle.laws.specs.Loadable.{Needs}
 use Rattle.laws.specs.Loads.{accepts}
 use Rattle.laws.proofs.Cases.{by-test}
 use Rattle.laws.proofs.Accepting.{after-write}
@@ -195,16 +200,17 @@ run-in-range b [] h = h
 run-in-range b (call l e ∷ cs) h = run-in-range (next b l e) cs (next-in-range b l e h)
 
 -- an accepted load found none of its refusals
-taken : (b9 b3 b4 b5 b6 b7 b8 : Bool) → firstOf b9 b3 b4 b5 b6 b7 b8 ≡ Take → (b4 ≡ false) × (b6 ≡ false) × (b7 ≡ false) × (b8 ≡ false)
+taken : (b9 b3 b4 b5 b16 b6 b7 b8 : Bool) → firstOf b9 b3 b4 b5 b16 b6 b7 b8 ≡ Take → (b4 ≡ false) × (b6 ≡ false) × (b7 ≡ false) × (b8 ≡ false)
 unfolding firstOf
-taken true b3 b4 b5 b6 b7 b8 e = absurd (let z : _≡_ {A = ℕ} 0 1 = cc in omega arith)
-taken false true b4 b5 b6 b7 b8 e = absurd (let z : _≡_ {A = ℕ} 0 1 = cc in omega arith)
-taken false false true b5 b6 b7 b8 e = absurd (let z : _≡_ {A = ℕ} 0 1 = cc in omega arith)
-taken false false false true b6 b7 b8 e = absurd (let z : _≡_ {A = ℕ} 0 1 = cc in omega arith)
-taken false false false false true b7 b8 e = absurd (let z : _≡_ {A = ℕ} 0 1 = cc in omega arith)
-taken false false false false false true b8 e = absurd (let z : _≡_ {A = ℕ} 0 1 = cc in omega arith)
-taken false false false false false false true e = absurd (let z : _≡_ {A = ℕ} 0 1 = cc in omega arith)
-taken false false false false false false false e = (refl, refl, refl, refl)
+taken true b3 b4 b5 b16 b6 b7 b8 e = absurd (let z : _≡_ {A = ℕ} 0 1 = cc in omega arith)
+taken false true b4 b5 b16 b6 b7 b8 e = absurd (let z : _≡_ {A = ℕ} 0 1 = cc in omega arith)
+taken false false true b5 b16 b6 b7 b8 e = absurd (let z : _≡_ {A = ℕ} 0 1 = cc in omega arith)
+taken false false false true b16 b6 b7 b8 e = absurd (let z : _≡_ {A = ℕ} 0 1 = cc in omega arith)
+taken false false false false true b6 b7 b8 e = absurd (let z : _≡_ {A = ℕ} 0 1 = cc in omega arith)
+taken false false false false false true b7 b8 e = absurd (let z : _≡_ {A = ℕ} 0 1 = cc in omega arith)
+taken false false false false false false true b8 e = absurd (let z : _≡_ {A = ℕ} 0 1 = cc in omega arith)
+taken false false false false false false false true e = absurd (let z : _≡_ {A = ℕ} 0 1 = cc in omega arith)
+taken false false false false false false false false e = (refl, refl, refl, refl)
 
 -- the board of a mapper number up to 4 has that number
 numbered : (n : ℕ) → n ≤ 4 → mapperNumber (mapperType n) ≡ n
@@ -216,22 +222,47 @@ numbered (suc (suc (suc zero))) h = refl
 numbered (suc (suc (suc (suc zero)))) h = refl
 numbered (suc (suc (suc (suc (suc n))))) h = absurd (omega arith)
 
-negate : {x : Bool} → x ≡ false → not x ≡ true
-negate e = rw e refl
+-- the counts of a header of bytes, where they are powers of two in board mode
+counts : (mode : Mode) (h : Header) → h .prg < 256 → h .chr < 256 → noPowers mode (prgIn mode h) (chrIn mode h) ≡ false
+    → (prgIn mode h < countsEnd mode (isNes2 h)) × (chrIn mode h < countsEnd mode (isNes2 h))
+unfolding countsEnd isNes2In
+counts mode h p c e = go mode (isNes2 h) refl e
+  where
+    plain : (m : Mode) → extended m h ≡ false → (prgIn m h < 256) × (chrIn m h < 256)
+    plain m f = (subst⁻¹ (λ (n : ℕ). n < 256) (plain-prg m h f) p, subst⁻¹ (λ (n : ℕ). n < 256) (plain-chr m h f) c)
+
+    go : (m : Mode) (t : Bool) → isNes2 h ≡ t → noPowers m (prgIn m h) (chrIn m h) ≡ false → (prgIn m h < countsEnd m t) × (chrIn m h < countsEnd m t)
+    go House t f q = plain House refl
+    go OnBoard false f q = plain OnBoard f
+    go OnBoard true f q = let s = counts-small (prgIn OnBoard h) (chrIn OnBoard h) q in (omega (arith, s .0), omega (arith, s .1))
+
+-- only an image that is read as NES 2.0 lacks PRG RAM
+noted : (mode : Mode) (h : Header) → (hasPrgRam mode h || extended mode h) ≡ true
+unfolding hasPrgRam
+noted mode h = go (extended mode h) (not (eqb (h .flags10) 0))
+  where
+    go : (t x : Bool) → (cond t x true || t) ≡ true
+    go true true = refl
+    go true false = refl
+    go false x = refl
 
 -- what an accepted load keeps is as a load could leave it
 pub could-load : (s : List ℕ) (mode : Mode) (p c : ℕ) → byte s 4 < 256 → byte s 5 < 256 → verdict s mode p c ≡ Take → couldLoad (cartridgeOf (headerOf s) mode (length s)) ≡ true
-unfolding verdict firstOf couldLoad cartridgeOf headerOf mirroringOf
+unfolding verdict firstOf prgRamFits cartridgeOf headerOf mirroringOf
 could-load s mode p c h4 h5 e =
     let h = headerOf s in
-    let t = taken (not (ramsFit p c)) (ltb (length s) 16400 || not (isInes s)) (ltb 4 (mapperOf h)) (isSpecial h) (badPrg (mapperOf h) (h .prg)) (ltb (length s) (needed (h .prg) (h .chr))) (noPowers mode (h .prg) (h .chr)) e in
-    join
-    (join
-    (join
-    (negate (subst⁻¹ (λ (n : ℕ). badPrg n (h .prg) ≡ false) (numbered (mapperOf h) (ltb-false 4 (mapperOf h) (t .0))) (t .1)))
-    (negate (t .3)))
-    (join (join (lt-ltb (h .prg) 256 h4) (lt-ltb (h .chr) 256 h5)) (le-leb (needed (h .prg) (h .chr)) (length s) (ltb-false (length s) (needed (h .prg) (h .chr)) (t .2)))))
-    (either (λ (m : Mirroring). isHeaders m ≡ true) (eqb (h .flags6 % 2) 1) refl refl)
+    let t = taken (not (ramsFit p c)) (ltb (length s) 16400 || not (isInes s)) (ltb 4 (mapperIn mode h)) (isSpecial h) (nes2NotTaken mode h) (badPrg (mapperIn mode h) (prgIn mode h)) (ltb (length s) (needed (prgIn mode h) (chrIn mode h))) (noPowers mode (prgIn mode h) (chrIn mode h)) e in
+    let n = counts mode h h4 h5 (t .3) in
+    cart-in-range (cartridgeOf h mode (length s))
+    (record {
+      prg-taken = subst⁻¹ (λ (n : ℕ). badPrg n (prgIn mode h) ≡ false) (numbered (mapperIn mode h) (ltb-false 4 (mapperIn mode h) (t .0))) (t .1);
+      powers = t .3;
+      prg-small = n .0;
+      chr-small = n .1;
+      room = ltb-false (length s) (needed (prgIn mode h) (chrIn mode h)) (t .2);
+      headers = either (λ (m : Mirroring). isHeaders m ≡ true) (eqb (h .flags6 % 2) 1) refl refl;
+      noted = noted mode h;
+    })
 
 -- the start values of every mapper
 start-fits : (k : MapperType) → fits k (start k) ≡ true
@@ -254,18 +285,10 @@ start-screens OnBoard Uxrom m h = same-self m
 start-screens OnBoard Cnrom m h = same-self m
 start-screens OnBoard Mmc3 m h = h
 
-headers : (c : Cartridge) → couldLoad c ≡ true → isHeaders (c .mirroring) ≡ true
-unfolding couldLoad
-headers c h =
-    and-right
-    (not (badPrg (mapperNumber (c .mapper)) (c .prg)) && not (noPowers (c .mode) (c .prg) (c .chr))
-    && (ltb (c .prg) 256 && ltb (c .chr) 256 && leb (needed (c .prg) (c .chr)) (c .length)))
-    (isHeaders (c .mirroring)) h
-
 -- the board that such a cartridge starts with
 pub start-in-range : (c : Cartridge) → couldLoad c ≡ true → inRange (startOf c) ≡ true
 unfolding startOf inRange mirroringFits
-start-in-range c h = join (join h (start-fits (c .mapper))) (start-screens (c .mode) (c .mapper) (c .mirroring) (headers c h))
+start-in-range c h = join (join h (start-fits (c .mapper))) (start-screens (c .mode) (c .mapper) (c .mirroring) (fields c h .headers))
 
 -- the board that an accepted load gives, of any image of bytes
 pub load-in-range : (s : List ℕ) (mode : Mode) (p c : ℕ) → byte s 4 < 256 → byte s 5 < 256 → verdict s mode p c ≡ Take
@@ -310,20 +333,45 @@ greatest-length = refl
 pub no-counts-need-more : (prg chr : ℕ) → prg < 256 → chr < 256 → needed prg chr ≤ 6266896
 no-counts-need-more prg chr p c = omega (arith, p, c)
 
--- nor does a board in range, whose image has what it needs
-pub no-board-needs-more : (b : Board) → inRange b ≡ true → (needed (b .cart .prg) (b .cart .chr) ≤ 6266896) × (needed (b .cart .prg) (b .cart .chr) ≤ b .cart .length)
-unfolding couldLoad
-no-board-needs-more b h =
-    let c = b .cart in
-    let q = split-3 (not (badPrg (mapperNumber (c .mapper)) (c .prg)) && not (noPowers (c .mode) (c .prg) (c .chr))) (ltb (c .prg) 256 && ltb (c .chr) 256 && leb (needed (c .prg) (c .chr)) (c .length)) (isHeaders (c .mirroring)) (three b h .0) in
-    let r = split-3 (ltb (c .prg) 256) (ltb (c .chr) 256) (leb (needed (c .prg) (c .chr)) (c .length)) (q .1) in
-    (no-counts-need-more (c .prg) (c .chr) (ltb-true (c .prg) 256 (r .0)) (ltb-true (c .chr) 256 (r .1)), leb-true (needed (c .prg) (c .chr)) (c .length) (r .2))
+-- M-100's counts: 2,048 PRG blocks and 2,048 CHR blocks
+pub greatest-nes2-length : needed 2048 2048 ≡ 50331664
+greatest-nes2-length = refl
 
--- so no accepted image of bytes, and it has what it needs
+-- no counts that board mode takes need more
+pub no-nes2-counts-need-more : (prg chr : ℕ) → noPowers OnBoard prg chr ≡ false → needed prg chr ≤ 50331664
+no-nes2-counts-need-more prg chr e = let s = counts-small prg chr e in omega (arith, s .0, s .1)
+
+-- nor does a cartridge in range, whose image has what it needs
+pub no-cartridge-needs-more : (c : Cartridge) → couldLoad c ≡ true → Needs c
+unfolding countsEnd isNes2In
+no-cartridge-needs-more c h =
+    record { as-ines = small; as-any = go (c .mode) refl; is-there = fields c h .room }
+  where
+    small : isNes2In (c .mode) (c .nes2) ≡ false → needed (c .prg) (c .chr) ≤ 6266896
+    small e =
+        let end : countsEnd (c .mode) (c .nes2) ≡ 256 = rw e refl in
+        no-counts-need-more (c .prg) (c .chr) (subst (λ (n : ℕ). c .prg < n) end (fields c h .prg-small)) (subst (λ (n : ℕ). c .chr < n) end (fields c h .chr-small))
+
+    go : (m : Mode) → c .mode ≡ m → needed (c .prg) (c .chr) ≤ 50331664
+    go House e = let n = small (ap (λ (m : Mode). isNes2In m (c .nes2)) e) in omega (arith, n)
+    go OnBoard e = no-nes2-counts-need-more (c .prg) (c .chr) (subst (λ (m : Mode). noPowers m (c .prg) (c .chr) ≡ false) e (fields c h .powers))
+
+-- nor does a board in range
+pub no-board-needs-more : (b : Board) → inRange b ≡ true → Needs (b .cart)
+no-board-needs-more b h = no-cartridge-needs-more (b .cart) (three b h .0)
+
+-- so no accepted image of bytes, which has the data that its counts say within its length
 pub no-accepted-image-needs-more : (s : List ℕ) (mode : Mode) (p c : ℕ) → byte s 4 < 256 → byte s 5 < 256
     → loadedBoard (loadedAs (verdict s mode p c) (cartridgeOf (headerOf s) mode (length s))) .answer ≡ Accepted
-    → (needed (byte s 4) (byte s 5) ≤ 6266896) × (needed (byte s 4) (byte s 5) ≤ length s)
-unfolding startOf cartridgeOf headerOf
+    → Needs (cartridgeOf (headerOf s) mode (length s))
 no-accepted-image-needs-more s mode p c h4 h5 e =
-    let t = accepted (verdict s mode p c) (cartridgeOf (headerOf s) mode (length s)) e in
-    no-board-needs-more (startOf (cartridgeOf (headerOf s) mode (length s))) (load-in-range s mode p c h4 h5 t)
+    no-cartridge-needs-more (cartridgeOf (headerOf s) mode (length s))
+    (could-load s mode p c h4 h5 (accepted (verdict s mode p c) (cartridgeOf (headerOf s) mode (length s)) e))
+
+-- and whatever numbers the header has: its counts, with their extension, say no more than is there
+pub the-data-is-there : (s : List ℕ) (mode : Mode) (p c : ℕ) → verdict s mode p c ≡ Take → needed (prgIn mode (headerOf s)) (chrIn mode (headerOf s)) ≤ length s
+unfolding verdict firstOf
+the-data-is-there s mode p c e =
+    let h = headerOf s in
+    let t = taken (not (ramsFit p c)) (ltb (length s) 16400 || not (isInes s)) (ltb 4 (mapperIn mode h)) (isSpecial h) (nes2NotTaken mode h) (badPrg (mapperIn mode h) (prgIn mode h)) (ltb (length s) (needed (prgIn mode h) (chrIn mode h))) (noPowers mode (prgIn mode h) (chrIn mode h)) e in
+    ltb-false (length s) (needed (prgIn mode h) (chrIn mode h)) (t .2)

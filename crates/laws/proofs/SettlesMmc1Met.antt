@@ -54,9 +54,10 @@ unfolding opened
 met-loads House = refl
 met-loads OnBoard = refl
 
-pub met-image : ImageOf Mmc1 mmc1-image
+pub met-image : (mode : Mode) → ImageOf Mmc1 mode mmc1-image
 unfolding opened
-met-image = record { mapper = refl; prg-is-a-byte = omega arith; chr-is-a-byte = omega arith }
+met-image House = record { mapper = refl; prg-is-a-byte = omega arith; chr-is-a-byte = omega arith }
+met-image OnBoard = record { mapper = refl; prg-is-a-byte = omega arith; chr-is-a-byte = omega arith }
 
 -- a history without calls, and one that is in the midst of a game: other registers, other screens on the real board, and three bits in the serial register
 abbrev pub history : (mode : Mode) → List Call → History mode mmc1-image
@@ -95,7 +96,7 @@ met-screens = refl
 pub met-both : (mode : Mode) → BothCleared (fresh mode) (used mode) (bit7 lent) (bit7 others) (calls lent) (calls others)
 met-both mode =
     record {
-      image = met-image;
+      image = met-image mode;
       first-accepts = met-fresh mode;
       second-accepts = met-used mode;
       then-the-same-calls = refl;

@@ -1,7 +1,7 @@
 -- The interrupt unit moves by itself: what a call makes of it, and whether a write is refused, depends on the unit and not on the banks.
 -- Latch, reload, enable and clock leave one unit whatever it was, so from there on two boards have the same one. Assumes nothing.
 use Prim.Native.Nat.{ℕ}
-use mathlib.Core.Path.{_≡_, refl, sym, ap, ap₂, _∙_, subst, subst⁻¹}
+use mathlib.Core.Path.{_≡_, refl, sym, ap, ap₂, _∙_, subst}
 use mathlib.Core.Bool.{Bool, true, false, cond, _&&_}
 use mathlib.Core.List.{List, [], _∷_, map}
 use lib.Dec.{leb}
@@ -11,7 +11,7 @@ use Rattle.common.specs.declared.Refusal.the-variants.{IrqPending}
 use Rattle.cartridge.specs.declared.Cartridge.{Cartridge}
 use Rattle.cartridge.specs.declared.MapperType.{MapperType}
 use Rattle.cartridge.specs.declared.MapperType.the-variants.{Mmc3}
-use Rattle.places.specs.Windows.{inWindows, landsIn}
+use Rattle.places.specs.Windows.{prgRamOf, inWindows, landsIn}
 use Rattle.places.specs.Windows.Window.{Empty, Refused}
 use Rattle.places.specs.declared.Landing.{Landing}
 use Rattle.mmc3.specs.Clock as mmc3-clock
@@ -28,7 +28,7 @@ use Rattle.boards.specs.Runs.{Lent, next, answer, Call, call, after, answers}
 use Rattle.boards.specs.declared.Board.{Board}
 use Rattle.boards.specs.declared.Event.{Event}
 use Rattle.boards.specs.declared.Event.the-variants.{Read, Write, Clock}
-use Rattle.laws.specs.Calls.{OneImage, wipedFor, wipedLent, wiped, SameCalls}
+use Rattle.laws.specs.Calls.{OneImage, wipedFor, wiped, SameCalls}
 use Rattle.laws.specs.Loads.{isAccepted, accepts}
 use Rattle.laws.specs.SettlesMmc3.{irqAnswers, Arming, armed, Accepts, Settles}
 use Rattle.laws.proofs.Positions.{same-accepts, wiped-next, same-after}
@@ -72,7 +72,7 @@ module _ {b d : Board} (r : Alike b d) (a : ℕ) where
   landing-alike House e =
       ap isAccepted
       (lands-there House b (r .one .mapper) e
-      ∙ ap₂ (λ (c : Cartridge) (i : Irq). landsIn c (inWindows Empty (cond (mmc3-clock.isPending i && leb 0xE000 a && isEven a) (Refused IrqPending) Empty) a) a) (r .one .cart) (r .irq)
+      ∙ ap₂ (λ (c : Cartridge) (i : Irq). landsIn c (inWindows Empty (prgRamOf c) (cond (mmc3-clock.isPending i && leb 0xE000 a && isEven a) (Refused IrqPending) Empty) a) a) (r .one .cart) (r .irq)
       ∙ sym (lands-there House d (swapped (r .one) .mapper) (ap (λ (c : Cartridge). c .mode) (sym (r .one .cart)) ∙ e)))
   landing-alike OnBoard e = board-alike (r .one) e a
 

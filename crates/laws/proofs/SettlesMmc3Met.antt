@@ -35,9 +35,10 @@ unfolding opened
 met-loads House = refl
 met-loads OnBoard = refl
 
-pub met-image : ImageOf Mmc3 mmc3-image
+pub met-image : (mode : Mode) → ImageOf Mmc3 mode mmc3-image
 unfolding opened
-met-image = record { mapper = refl; prg-is-a-byte = omega arith; chr-is-a-byte = omega arith }
+met-image House = record { mapper = refl; prg-is-a-byte = omega arith; chr-is-a-byte = omega arith }
+met-image OnBoard = record { mapper = refl; prg-is-a-byte = omega arith; chr-is-a-byte = omega arith }
 
 abbrev pub history : (mode : Mode) → List Call → History mode mmc3-image
 history mode cs = record { prg = ram; chr = ram; accepted = met-loads mode; calls = cs }
@@ -83,7 +84,7 @@ calls l = call (runs.lent (l .image) [] (l .chr)) (Write 0xE000 0) ∷ map (call
 pub met-both : (mode : Mode) → BothArmed (fresh mode) (used mode) (arming lent) (arming others) (calls lent) (calls others)
 met-both mode =
     record {
-      image = met-image;
+      image = met-image mode;
       first-accepts = met-fresh mode;
       second-accepts = met-used mode;
       one-latch = refl;

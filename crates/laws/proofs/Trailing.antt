@@ -75,12 +75,12 @@ module _ (n : ℕ) (s t : List ℕ) (e : EqualUpTo n s t) (h : 16 ≤ n) where
   same-verdict mode p c = rw (same-header, same-magic, e .one-length) refl
 
 -- a load
-pub trailing-bytes-change-no-load : (mode : Mode) (s t prg chr : List ℕ) → EqualUpTo (imagesEnd s) s t → LoadedAlike mode s t prg chr
+pub trailing-bytes-change-no-load : (mode : Mode) (s t prg chr : List ℕ) → EqualUpTo (imagesEnd mode s) s t → LoadedAlike mode s t prg chr
 trailing-bytes-change-no-load mode s t prg chr e =
-    let h : 16 ≤ imagesEnd s = omega arith in
-    let v = same-verdict (imagesEnd s) s t e h mode (length prg) (length chr) in
+    let h : 16 ≤ imagesEnd mode s = omega arith in
+    let v = same-verdict (imagesEnd mode s) s t e h mode (length prg) (length chr) in
     let c : cartridgeOf (headerOf t) mode (length t) ≡ cartridgeOf (headerOf s) mode (length s)
-    = ap₂ (λ x n. cartridgeOf x mode n) (same-header (imagesEnd s) s t e h) (e .one-length) in
+    = ap₂ (λ x n. cartridgeOf x mode n) (same-header (imagesEnd mode s) s t e h) (e .one-length) in
     let z : loadWith mode t prg chr ≡ loadWith mode s prg chr = ap₂ (λ (x : Verdict) (y : Cartridge). loadedBoard (loadedAs x y)) v c in
     record {
       the-answer = ap (λ (x : Loaded). x .answer) z;
@@ -168,12 +168,12 @@ trailing-bytes-change-no-run b l t e (x ∷ es) =
 
 -- and a run from the load on, with whatever is in both RAMs
 loaded-counts : (w : Verdict) (s : List ℕ) (mode : Mode) → loadedBoard (loadedAs w (cartridgeOf (headerOf s) mode (length s))) .answer ≡ Accepted
-    → boardsEnd (loadedBoard (loadedAs w (cartridgeOf (headerOf s) mode (length s))) .board) ≡ imagesEnd s
+    → boardsEnd (loadedBoard (loadedAs w (cartridgeOf (headerOf s) mode (length s))) .board) ≡ imagesEnd mode s
 unfolding loadedBoard loadedAs startOf cartridgeOf headerOf
 loaded-counts Take s mode e = refl
 loaded-counts (Refuse why) s mode e = absurd (let z : _≡_ {A = ℕ} 0 1 = cc in omega arith)
 
-pub trailing-bytes-change-nothing-after-a-load : (mode : Mode) (s t prg chr : List ℕ) → EqualUpTo (imagesEnd s) s t → loadWith mode s prg chr .answer ≡ Accepted
+pub trailing-bytes-change-nothing-after-a-load : (mode : Mode) (s t prg chr : List ℕ) → EqualUpTo (imagesEnd mode s) s t → loadWith mode s prg chr .answer ≡ Accepted
     → (prg′ chr′ : List ℕ) (es : List Event) → PlayedAlike (loadWith mode s prg chr .board) (lent s prg′ chr′) t es
 trailing-bytes-change-nothing-after-a-load mode s t prg chr e h prg′ chr′ es =
     trailing-bytes-change-no-run (loadWith mode s prg chr .board) (lent s prg′ chr′) t
@@ -186,8 +186,10 @@ with-zeros = nrom ++ (0 ∷ 0 ∷ 0 ∷ 0 ∷ 0 ∷ 0 ∷ 0 ∷ 0 ∷ [])
 abbrev with-ones : List ℕ
 with-ones = nrom ++ (1 ∷ 1 ∷ 1 ∷ 1 ∷ 1 ∷ 1 ∷ 1 ∷ 1 ∷ [])
 
-pub met : EqualUpTo (imagesEnd with-zeros) with-zeros with-ones
-met = record { one-length = refl; one-start = refl }
+pub met : (mode : Mode) → EqualUpTo (imagesEnd mode with-zeros) with-zeros with-ones
+unfolding opened
+met House = record { one-length = refl; one-start = refl }
+met OnBoard = record { one-length = refl; one-start = refl }
 
 pub met-accepted : (mode : Mode) → loadWith mode with-zeros ram ram .answer ≡ Accepted
 unfolding opened

@@ -1,27 +1,27 @@
 -- For a board in range every place of a read or a write lies inside what it names, since a bank that ends past its data is refused.
 -- In board mode none is refused, by the modulo rule, and a byte is stored where it would be read, if that is RAM. Assumes nothing.
 use Prim.Native.Nat.{ℕ, _+_, _-_, _*_, _/_, _%_, _≤_, _<_}
-use mathlib.Core.Path.{_≡_, refl, sym, ap, _∙_, subst⁻¹}
-use mathlib.Core.Bool.{Bool, true, false, cond, not, _&&_, _||_}
+use mathlib.Core.Path.{_≡_, refl, sym, _∙_, subst⁻¹}
+use mathlib.Core.Bool.{Bool, true, false, cond, _&&_, _||_}
 use native.Mathlib.Omega.{arith}
 use lib.Dec.{ltb, leb, eqb}
-use borrow.Author.Tests.{ltb-true, ltb-false, leb-true, eqb-false, not-true}
-use Rattle.rules.proofs.Bools.{and-left, split-3, either}
+use borrow.Author.Tests.{leb-true, eqb-false}
+use Rattle.rules.proofs.Bools.{split-3, either}
 use Rattle.common.specs.Common.{KB1, KB4, KB8, KB16}
-use Rattle.common.specs.Answers.{isHeaders}
 use Rattle.common.specs.declared.Mode.{Mode}
-use Rattle.common.specs.declared.Mode.the-variants.{House, Board as OnBoard}
+use Rattle.common.specs.declared.Mode.the-variants.{Board as OnBoard}
 use Rattle.banks.specs.Banks.{shown, startAt, bankStart}
 use Rattle.banks.specs.declared.Start.{Start}
 use Rattle.banks.specs.declared.Start.the-variants.{At, PastEnd}
 use Rattle.banks.proofs.Range.{modulo-rule}
-use Rattle.cartridge.specs.Load.{badPrg, noPowers, needed, couldLoad, prgTotal, chrTotal, hasChrRam, lastPrg}
+use Rattle.cartridge.specs.Load.{badPrg, couldLoad, prgTotal, chrTotal, hasChrRam, lastPrg}
 use Rattle.cartridge.specs.Mappers.{mapperNumber}
 use Rattle.cartridge.specs.declared.Cartridge.{Cartridge}
 use Rattle.cartridge.specs.declared.MapperType.{MapperType}
 use Rattle.cartridge.specs.declared.MapperType.the-variants.{Nrom, Mmc1, Uxrom, Cnrom, Mmc3}
+use Rattle.cartridge.proofs.Range.{fields}
 use Rattle.places.specs.Places.{prgAt, chrAt, inPrg, inChr}
-use Rattle.places.specs.Windows.{Window, landsIn, fixedBlock, fixedPrg, boardChr, boardChrRam, inWindows}
+use Rattle.places.specs.Windows.{Window, landsIn, fixedBlock, fixedPrg, boardChr, boardChrRam, prgRamOf, inWindows}
 use Rattle.places.specs.Windows.Window.{Prg16K, Prg8K, Chr8K, Chr4K, Chr1K, PrgRam, ChrRam, Empty, Refused}
 use Rattle.places.specs.Steps.{ifChrRam}
 use Rattle.places.specs.declared.Place.the-variants as place
@@ -49,15 +49,13 @@ record Roomy (c : Cartridge) : Type 0 where
   room : 16 + c .prg * KB16 + c .chr * KB8 ≤ c .length
 
 roomy : (b : Board) → inRange b ≡ true → Roomy (b .cart)
-unfolding inRange couldLoad badPrg
+unfolding inRange badPrg
 roomy b h =
     let c = b .cart in
-    let p = split-3 (couldLoad c) (fits (b .cart .mapper) (b .registers)) (mirroringFits b) h in
-    let q = split-3 (not (badPrg (mapperNumber (c .mapper)) (c .prg)) && not (noPowers (c .mode) (c .prg) (c .chr))) (ltb (c .prg) 256 && ltb (c .chr) 256 && leb (needed (c .prg) (c .chr)) (c .length)) (isHeaders (c .mirroring)) (p .0) in
-    let n = not-true (badPrg (mapperNumber (c .mapper)) (c .prg)) (and-left (not (badPrg (mapperNumber (c .mapper)) (c .prg))) (not (noPowers (c .mode) (c .prg) (c .chr))) (q .0)) in
+    let f = fields c (split-3 (couldLoad c) (fits (b .cart .mapper) (b .registers)) (mirroringFits b) h .0) in
     record {
-      some = nonzero (c .prg) ((eqb (mapperNumber (c .mapper)) 0 || eqb (mapperNumber (c .mapper)) 3) && ltb 2 (c .prg)) n;
-      room = leb-true (needed (c .prg) (c .chr)) (c .length) (split-3 (ltb (c .prg) 256) (ltb (c .chr) 256) (leb (needed (c .prg) (c .chr)) (c .length)) (q .1) .2);
+      some = nonzero (c .prg) ((eqb (mapperNumber (c .mapper)) 0 || eqb (mapperNumber (c .mapper)) 3) && ltb 2 (c .prg)) (f .prg-taken);
+      room = f .room;
     }
   where
     first : (x y : Bool) → (x || y) ≡ false → x ≡ false
@@ -164,9 +162,9 @@ module _ (c : Cartridge) (r : Roomy c) (e : c .mode ≡ OnBoard) where
   unfolding fixedPrg
   fixed-opens a = either Opens (ltb a 0x8000) tt tt
 
-  windows-open : (ppu rom : Window) (a : ℕ) → Opens ppu → Opens rom → Opens (inWindows ppu rom a)
-  unfolding inWindows
-  windows-open ppu rom a p q = either Opens (ltb a 0x2000) p (either Opens (ltb a 0x6000) tt (either Opens (ltb a 0x8000) tt q))
+  windows-open : (ppu rom : Window) (a : ℕ) → Opens ppu → Opens rom → Opens (inWindows ppu (prgRamOf c) rom a)
+  unfolding inWindows prgRamOf
+  windows-open ppu rom a p q = either Opens (ltb a 0x2000) p (either Opens (ltb a 0x6000) tt (either Opens (ltb a 0x8000) (either Opens (c .prgram) tt tt) q))
 
   reads-open : (k : MapperType) (x : Registers) (a : ℕ) → Opens (readWindowOn k x c a)
   unfolding readWindowOn nrom.readWindow uxrom.readWindow cnrom.readWindowIn cnrom.boardReadWindow mmc1.readWindow mmc3.readWindow
@@ -226,15 +224,15 @@ module _ (c : Cartridge) (r : Roomy c) (e : c .mode ≡ OnBoard) where
     unfolding landsIn
     no-window = refl
 
-    prg-ram : Stores PrgRam PrgRam
-    unfolding landsIn
-    prg-ram = refl
+    prg-ram : Stores (prgRamOf c) (prgRamOf c)
+    unfolding prgRamOf landsIn
+    prg-ram = alike Stores (c .prgram) refl no-window
 
     fixed : Stores Empty (fixedPrg c a)
     unfolding fixedPrg
     fixed = either (Stores Empty) (ltb a 0x8000) no-window (rom-16K (fixedBlock c a))
 
-    windows-store : (w v r : Window) → Stores w v → Stores Empty r → Stores (inWindows w Empty a) (inWindows v r a)
+    windows-store : (w v r : Window) → Stores w v → Stores Empty r → Stores (inWindows w (prgRamOf c) Empty a) (inWindows v (prgRamOf c) r a)
     unfolding inWindows
     windows-store w v r p q = alike Stores (ltb a 0x2000) p (alike Stores (ltb a 0x6000) no-window (alike Stores (ltb a 0x8000) prg-ram q))
 

@@ -4,7 +4,8 @@ use mathlib.Core.Path.{_≡_}
 use mathlib.Core.List.{List}
 use Rattle.common.specs.declared.Mode.{Mode}
 use Rattle.memory.specs.Memory.{byte}
-use Rattle.cartridge.specs.Header.{mapperOf, headerOf}
+use Rattle.cartridge.specs.Header.{headerOf}
+use Rattle.cartridge.specs.Nes2.{mapperIn}
 use Rattle.cartridge.specs.Mappers.{mapperType}
 use Rattle.cartridge.specs.declared.MapperType.{MapperType}
 use Rattle.cartridge.specs.declared.MapperType.the-variants.{Mmc1, Mmc3}
@@ -13,22 +14,22 @@ use Rattle.laws.specs.Calls.{History, reached, LentWrite, SameCalls}
 use Rattle.laws.specs.SettlesMmc1.{Clears}
 use Rattle.laws.specs.SettlesMmc3.{Arming, Accepts}
 
--- an image of this mapper, whose two counts are bytes
-pub record ImageOf (k : MapperType) (s : List ℕ) : Type 0 where
-  pub mapper : mapperType (mapperOf (headerOf s)) ≡ k
+-- an image that has this mapper in a mode, and whose bytes 4 and 5 are bytes
+pub record ImageOf (k : MapperType) (mode : Mode) (s : List ℕ) : Type 0 where
+  pub mapper : mapperType (mapperIn mode (headerOf s)) ≡ k
   pub prg-is-a-byte : byte s 4 < 256
   pub chr-is-a-byte : byte s 5 < 256
 
 -- MMC1: the boards that the histories x and y reach both accept "a write with bit 7 set to 8000-FFFF", "then get the same calls"
 pub record BothCleared {mode : Mode} {s : List ℕ} (x y : History mode s) (w u : LentWrite) (cs ds : List Call) : Type 0 where
-  pub image : ImageOf Mmc1 s
+  pub image : ImageOf Mmc1 mode s
   pub first-accepts : Clears w (reached x)
   pub second-accepts : Clears u (reached y)
   pub then-the-same-calls : SameCalls cs ds
 
 -- MMC3: the boards that the histories x and y reach both accept the same latch, reload and enable; after them come the clock and the same calls
 pub record BothArmed {mode : Mode} {s : List ℕ} (x y : History mode s) (w u : Arming) (cs ds : List Call) : Type 0 where
-  pub image : ImageOf Mmc3 s
+  pub image : ImageOf Mmc3 mode s
   pub first-accepts : Accepts (reached x) w
   pub second-accepts : Accepts (reached y) u
   pub one-latch : w .latch .byte ≡ u .latch .byte

@@ -33,7 +33,7 @@ use Rattle.laws.specs.PLines.Question.{whenLoaded, whenPlayed}
 -- a cartridge: its mode, its mapper, its PRG and CHR counts; the header horizontal
 abbrev pub cartIn : Mode → MapperType → ℕ → ℕ → Cartridge
 cartIn mode k prg chr =
-    record { mode = mode; mapper = k; nes2 = false; mirroring = Horizontal; prg = prg; chr = chr; length = needed prg chr }
+    record { mode = mode; mapper = k; nes2 = false; mirroring = Horizontal; prgram = true; prg = prg; chr = chr; length = needed prg chr }
 
 -- a cartridge in board mode
 abbrev pub cart : MapperType → ℕ → ℕ → Cartridge

@@ -3,6 +3,7 @@ pub mod Loads
 pub mod PLines
 pub mod Numbers
 pub mod FurtherRows
+pub mod Nes2Rows
 pub mod Loadable
 pub mod Clocks
 pub mod ThreeWrites
@@ -13,6 +14,7 @@ pub mod SettlesMmc3
 pub mod SettlesMmc1
 pub mod Demand3
 pub mod FiveBits
+pub mod AsBefore
 pub mod Mark
 pub mod AfterRefusal
 pub mod Trailing

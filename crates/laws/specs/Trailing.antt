@@ -4,7 +4,8 @@ use mathlib.Core.Path.{_≡_}
 use mathlib.Core.List.{List}
 use lib.ListN.{length, take}
 use Rattle.common.specs.declared.Mode.{Mode}
-use Rattle.memory.specs.Memory.{byte}
+use Rattle.cartridge.specs.Header.{headerOf}
+use Rattle.cartridge.specs.Nes2.{prgIn, chrIn}
 use Rattle.cartridge.specs.Load.{needed}
 use Rattle.boards.specs.Runs.{Lent, lent, next, answer, left, moment, played, ended}
 use Rattle.boards.specs.declared.Board.{Board}
@@ -16,9 +17,9 @@ pub record EqualUpTo (n : ℕ) (s t : List ℕ) : Type 0 where
   pub one-length : length t ≡ length s
   pub one-start : take n t ≡ take n s
 
--- where the data of an image ends: "Byte 4 counts 16,384-byte PRG blocks, byte 5 counts 8,192-byte CHR blocks"
-abbrev pub imagesEnd : List ℕ → ℕ
-imagesEnd s = needed (byte s 4) (byte s 5)
+-- where the data of an image ends in a mode: "Byte 4 counts 16,384-byte PRG blocks, byte 5 counts 8,192-byte CHR blocks", with M-100's extension
+abbrev pub imagesEnd : Mode → List ℕ → ℕ
+imagesEnd mode s = needed (prgIn mode (headerOf s)) (chrIn mode (headerOf s))
 
 -- where the data of the image ends that a board was loaded with
 abbrev pub boardsEnd : Board → ℕ

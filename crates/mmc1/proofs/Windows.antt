@@ -1,6 +1,7 @@
 -- In each window of the address, the byte of the bank that shows it is the byte that a read finds. Assumes nothing.
 use Prim.Native.Nat.{ℕ, _%_, _≤_, _<_}
 use mathlib.Core.Path.{_≡_, refl}
+use mathlib.Core.Bool.{Bool, true, false, cond}
 use mathlib.Core.List.{List}
 use native.Mathlib.Omega.{arith}
 use borrow.Author.Tests.{lt-ltb, le-ltb}
@@ -9,7 +10,8 @@ use Rattle.memory.specs.Memory.{byte}
 use Rattle.cartridge.specs.Load.{lastPrg}
 use Rattle.cartridge.specs.declared.Cartridge.{Cartridge}
 use Rattle.places.specs.Places.{byteOf, byteAt}
-use Rattle.places.specs.Windows.{inWindows, landsIn}
+use Rattle.places.specs.Windows.{inWindows, landsIn, prgRamOf}
+use Rattle.places.specs.Windows.Window.{PrgRam, Empty}
 use Rattle.places.proofs.Windows.{prg-byte, chr-byte}
 use Rattle.mmc1.specs.Read.{lowerPrg, upperPrg, lowerChr, upperChr, chrBank, prgBank, lowerPrgBank, upperPrgBank, lowerChrBank, upperChrBank, readWindow}
 use Rattle.mmc1.specs.declared.Mmc1.{Mmc1}
@@ -34,11 +36,15 @@ module _ (m : Mmc1) (c : Cartridge) (image prg chr : List ℕ) (a : ℕ) where
   unfolding landsIn readWindow inWindows byteAt byteOf
   below-6000 g h = rw (le-ltb a 0x2000 g, lt-ltb a 0x6000 h) refl
 
-  pub below-8000 : 0x6000 ≤ a → a < 0x8000 → byte prg (a % KB8) ≡ found
-  unfolding landsIn readWindow inWindows byteAt byteOf
+  pub below-8000 : 0x6000 ≤ a → a < 0x8000 → cond (c .prgram) (byte prg (a % KB8)) 0 ≡ found
+  unfolding landsIn readWindow inWindows prgRamOf byteAt byteOf
   below-8000 g h =
       let f : 0x2000 ≤ a = omega arith in
-      rw (le-ltb a 0x2000 f, le-ltb a 0x6000 g, lt-ltb a 0x8000 h) refl
+      rw (le-ltb a 0x2000 f, le-ltb a 0x6000 g, lt-ltb a 0x8000 h) (go (c .prgram))
+    where
+      go : (t : Bool) → cond t (byte prg (a % KB8)) 0 ≡ byteAt c (landsIn c (cond t PrgRam Empty) a) image prg chr
+      go true = refl
+      go false = refl
 
   pub below-c000 : 0x8000 ≤ a → a < 0xC000 → byte (lowerPrgBank m c image) (a % KB16) ≡ found
   unfolding landsIn readWindow inWindows prgBank lowerPrgBank

@@ -9,7 +9,7 @@ use Rattle.common.specs.declared.Mode.the-variants.{House, Board}
 use Rattle.banks.specs.Banks.{bankStart, bankOf}
 use Rattle.cartridge.specs.Load.{lastPrg, prgTotal, chrTotal, prgRom, chrData}
 use Rattle.cartridge.specs.declared.Cartridge.{Cartridge}
-use Rattle.places.specs.Windows.{Window, inWindows, houseChr, boardChr}
+use Rattle.places.specs.Windows.{Window, prgRamOf, inWindows, houseChr, boardChr}
 use Rattle.places.specs.Windows.Window.{Prg16K, Chr4K, Empty}
 use Rattle.mmc1.specs.Write.{switches8Kb}
 use Rattle.mmc1.specs.declared.Regs.{Regs}
@@ -55,7 +55,7 @@ prgBank m c a = cond (ltb a 0xC000) (lowerPrg (c .mode) (m .regs)) (upperPrg (c 
 
 -- what a read finds
 unfoldable pub readWindow : Mmc1 → Cartridge → ℕ → Window
-readWindow m c a = inWindows (Chr4K (chrBank m c a)) (Prg16K (prgBank m c a)) a
+readWindow m c a = inWindows (Chr4K (chrBank m c a)) (prgRamOf c) (Prg16K (prgBank m c a)) a
 
 -- house: "PPU writes go to CHR RAM unbanked"; board: "CHR RAM is read and written through the banks, on all boards; CHR ROM ignores writes"
 unfoldable pub ppuWriteIn : Mode → Mmc1 → Cartridge → ℕ → Window
@@ -64,7 +64,7 @@ ppuWriteIn Board m c a = boardChr c (Chr4K (chrBank m c a))
 
 -- what a write finds in each mode; at 8000-FFFF it stores no byte, and only moves registers
 unfoldable pub writeWindowIn : Mode → Mmc1 → Cartridge → ℕ → Window
-writeWindowIn mode m c a = inWindows (ppuWriteIn mode m c a) Empty a
+writeWindowIn mode m c a = inWindows (ppuWriteIn mode m c a) (prgRamOf c) Empty a
 
 -- what a write finds, in the mode that the cartridge has
 abbrev pub writeWindow : Mmc1 → Cartridge → ℕ → Window

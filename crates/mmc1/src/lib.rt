@@ -1,5 +1,9 @@
 // MMC1: a serial register and the four registers that it loads. Ported from potatis nes/src/mappers/mmc1.rs.
 ghost use mathlib.Core.Path.{_≡_};
+ghost use mathlib.Core.Bool.{cond};
+ghost use Prim.Native.Nat.{_%_};
+ghost use Rattle.common.specs.Common.{KB8};
+ghost use Rattle.memory.specs.Memory.{byte};
 ghost use Rattle.places.specs.Places.{byteAt};
 ghost use Rattle.places.specs.Windows.{landsIn, boardChr};
 ghost use Rattle.places.specs.Windows.Window.{Chr4K, Prg16K};
@@ -306,6 +310,17 @@ fn chr_pair(mode: Mode, chr0: u8) -> u8
     }
 }
 
+// The byte of PRG RAM at 6000-7FFF, 0 where there is no such RAM.
+fn prg_ram_byte(cart: Cartridge, prg: &[u8], address: u16) -> u8
+    ensures { λ r. ⌜ r ≡ cond (cart .prgram) (byte (now (prg .entry)) (address % KB8)) 0 ⌝ }
+{
+    if cart.prgram {
+        byte_at(prg, (address % 8192) as usize)
+    } else {
+        0
+    }
+}
+
 impl Mmc1 {
     // Powers on in the last bank.
     pub fn new() -> Self
@@ -413,7 +428,7 @@ impl Mmc1 {
     {
         match address {
             0x0000..=0x1fff => self.read_chr(cart, address),
-            0x6000..=0x7fff => places::prg_ram(cart, address),
+            0x6000..=0x7fff => places::if_prg_ram(cart, address),
             0x8000..=0xffff => self.read_prg(cart, address),
             _ => Landing::At(Place::Nowhere),
         }
@@ -435,7 +450,7 @@ impl Mmc1 {
                 Mode::House => places::house_chr(cart, address),
                 Mode::Board => self.board_write_chr(cart, address),
             },
-            0x6000..=0x7fff => places::prg_ram(cart, address),
+            0x6000..=0x7fff => places::if_prg_ram(cart, address),
             _ => Landing::At(Place::Nowhere),
         }
     }
@@ -496,7 +511,7 @@ impl Mmc1 {
         match address {
             0x0000..=0x0fff => byte_at(self.lower_chr_bank(cart, image, chr), in_chr),
             0x1000..=0x1fff => byte_at(self.upper_chr_bank(cart, image, chr), in_chr),
-            0x6000..=0x7fff => byte_at(prg, (address % 8192) as usize),
+            0x6000..=0x7fff => prg_ram_byte(cart, prg, address),
             0x8000..=0xbfff => byte_at(self.lower_prg_bank(cart, image), in_prg),
             0xc000..=0xffff => byte_at(self.upper_prg_bank(cart, image), in_prg),
             _ => 0,

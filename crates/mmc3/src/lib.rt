@@ -369,7 +369,7 @@ impl Mmc3 {
     {
         match address {
             0x0000..=0x1fff => self.read_chr(cart, address),
-            0x6000..=0x7fff => places::prg_ram(cart, address),
+            0x6000..=0x7fff => places::if_prg_ram(cart, address),
             0x8000..=0xffff => self.read_prg(cart, address),
             _ => Landing::At(Place::Nowhere),
         }
@@ -404,7 +404,7 @@ impl Mmc3 {
                 Mode::House => Landing::At(Place::Nowhere),
                 Mode::Board => self.board_write_chr(cart, address),
             },
-            0x6000..=0x7fff => places::prg_ram(cart, address),
+            0x6000..=0x7fff => places::if_prg_ram(cart, address),
             0x8000..=0xffff => match mode {
                 Mode::House => self.acknowledged(cart, address),
                 Mode::Board => Landing::At(Place::Nowhere),

@@ -1,9 +1,8 @@
 -- What a page hangs on beside the cartridge: below 2000, and for reads at 8000 and above, a part of the registers; else nothing. Assumes nothing.
 use Prim.Native.Nat.{ℕ, _*_, _/_, _≤_, _<_}
 use mathlib.Core.Path.{_≡_, refl, _∙_, ap}
-use mathlib.Core.Bool.{true, false, cond, _&&_}
+use mathlib.Core.Bool.{true, false, cond}
 use native.Mathlib.Omega.{arith}
-use lib.Dec.{leb}
 use borrow.Author.Tests.{eqb-true}
 use Rattle.common.specs.Common.{KB1}
 use Rattle.common.specs.declared.Mode.{Mode}
@@ -12,7 +11,7 @@ use Rattle.cartridge.specs.Mappers.{isMapper}
 use Rattle.cartridge.specs.declared.Cartridge.{Cartridge}
 use Rattle.cartridge.specs.declared.MapperType.{MapperType}
 use Rattle.cartridge.specs.declared.MapperType.the-variants.{Nrom, Mmc1, Uxrom, Cnrom, Mmc3}
-use Rattle.places.specs.Windows.{Window, landsIn, boardChr, boardChrRam, inWindows}
+use Rattle.places.specs.Windows.{Window, landsIn, boardChr, boardChrRam, prgRamOf, inWindows}
 use Rattle.places.specs.Windows.Window.{Prg16K, Prg8K, Chr8K, Chr4K, Chr1K}
 use Rattle.nrom.specs.Nrom as nrom
 use Rattle.uxrom.specs.Uxrom as uxrom
@@ -28,9 +27,9 @@ use Rattle.pages.specs.Parts.{sameChr, samePrg}
 use Rattle.page_laws.proofs.Cases.{in-mode, alike, pick, below}
 use Rattle.page_laws.proofs.Banks.{mmc1-chr, mmc1-prg, mmc3-chr, mmc3-prg}
 
-windows-alike : (a : ℕ) {ppu rom ppu′ rom′ : Window} → (a < 0x2000 → ppu ≡ ppu′) → (0x8000 ≤ a → rom ≡ rom′) → inWindows ppu rom a ≡ inWindows ppu′ rom′ a
+windows-alike : (c : Cartridge) (a : ℕ) {ppu rom ppu′ rom′ : Window} → (a < 0x2000 → ppu ≡ ppu′) → (0x8000 ≤ a → rom ≡ rom′) → inWindows ppu (prgRamOf c) rom a ≡ inWindows ppu′ (prgRamOf c) rom′ a
 unfolding inWindows
-windows-alike a f g = pick a 0x2000 f (λ m. pick a 0x6000 (λ l. refl) (λ m. pick a 0x8000 (λ l. refl) g))
+windows-alike c a f g = pick a 0x2000 f (λ m. pick a 0x6000 (λ l. refl) (λ m. pick a 0x8000 (λ l. refl) g))
 
 -- the window at an address
 module _ (r s : Registers) (c : Cartridge) (a : ℕ) where
@@ -43,7 +42,7 @@ module _ (r s : Registers) (c : Cartridge) (a : ℕ) where
   unfolding sameChr samePrg readWindowOn uxrom.readWindow mmc1.readWindow mmc3.readWindow
   reads-hang Nrom chr prg = refl
   reads-hang Mmc1 chr prg =
-      windows-alike a
+      windows-alike c a
       (λ l. ap Chr4K (mmc1-chr (r .mmc1) (s .mmc1) c a (chr l)))
       (λ g. ap Prg16K (mmc1-prg (r .mmc1) (s .mmc1) c a (prg g)))
   reads-hang Uxrom chr prg =
@@ -52,7 +51,7 @@ module _ (r s : Registers) (c : Cartridge) (a : ℕ) where
       (λ g. pick a 0xC000 (λ l. ap Prg16K (eqb-true (r .uxrom .bank) (s .uxrom .bank) (prg g))) (λ h. refl)))
   reads-hang Cnrom chr prg = cnrom-hangs (c .mode) chr
   reads-hang Mmc3 chr prg =
-      windows-alike a
+      windows-alike c a
       (λ l. ap Chr1K (mmc3-chr (r .mmc3) (s .mmc3) (chr l) (a / 1024)))
       (λ g. ap Prg8K (mmc3-prg (r .mmc3) (s .mmc3) (prg g) c a))
 
@@ -62,14 +61,14 @@ module _ (r s : Registers) (c : Cartridge) (a p : ℕ) (page : a ≡ p * KB1) wh
   unfolding sameChr writeWindowOn hasRegisters isMapper boardChrRam nrom.writeWindowIn uxrom.writeWindowIn cnrom.writeWindowIn mmc1.writeWindowIn mmc1.ppuWriteIn mmc3.writeWindowIn mmc3.ppuWriteIn mmc3.romWriteIn
   writes-hang Nrom chr f = refl
   writes-hang Mmc1 chr f = in-mode (λ (m : Mode). mmc1.writeWindowIn m (r .mmc1) c a ≡ mmc1.writeWindowIn m (s .mmc1) c a) (c .mode) refl
-      (windows-alike a (λ l. ap (λ (n : ℕ). boardChr c (Chr4K n)) (mmc1-chr (r .mmc1) (s .mmc1) c a (chr l))) (λ g. refl))
+      (windows-alike c a (λ l. ap (λ (n : ℕ). boardChr c (Chr4K n)) (mmc1-chr (r .mmc1) (s .mmc1) c a (chr l))) (λ g. refl))
   writes-hang Uxrom chr f = in-mode (λ (m : Mode). uxrom.writeWindowIn m (r .uxrom) c a ≡ uxrom.writeWindowIn m (s .uxrom) c a) (c .mode) refl refl
   writes-hang Cnrom chr f = in-mode (λ (m : Mode). cnrom.writeWindowIn m (r .cnrom) c a ≡ cnrom.writeWindowIn m (s .cnrom) c a) (c .mode) refl
       (pick a 0x2000 (λ l. ap (λ (n : ℕ). boardChr c (Chr8K n)) (eqb-true (r .cnrom .bank) (s .cnrom .bank) (chr l))) (λ m. refl))
   writes-hang Mmc3 chr f =
       in-mode (λ (m : Mode). mmc3.writeWindowIn m (r .mmc3) c a ≡ mmc3.writeWindowIn m (s .mmc3) c a) (c .mode)
-      (windows-alike a (λ l. refl) (λ g. absurd (omega (arith, below p f))))
-      (windows-alike a (λ l. ap (λ (n : ℕ). boardChr c (Chr1K n)) (mmc3-chr (r .mmc3) (s .mmc3) (chr l) (a / 1024))) (λ g. refl))
+      (windows-alike c a (λ l. refl) (λ g. absurd (omega (arith, below p f))))
+      (windows-alike c a (λ l. ap (λ (n : ℕ). boardChr c (Chr1K n)) (mmc3-chr (r .mmc3) (s .mmc3) (chr l) (a / 1024))) (λ g. refl))
 
 -- the pages of two boards of one cartridge
 module _ (b d : Board) (e : b .cart ≡ d .cart) (p : ℕ) (chr : p < 8 → sameChr (b .cart .mapper) (b .registers) (d .registers) ≡ true) where

@@ -25,7 +25,7 @@ use Rattle.page_laws.specs.Through.{through}
 use Rattle.page_laws.proofs.Numbers.{image-number, ram-number, refused-number, served}
 use Rattle.page_laws.proofs.Whole.{address-whole}
 
-module _ (c : Cartridge) (o : ℕ) (image prg chr : List ℕ) (s : c .prg < 256) (t : c .chr < 256) where
+module _ (c : Cartridge) (o : ℕ) (image prg chr : List ℕ) (s : c .prg < 4096) (t : c .chr < 4096) where
   read-at : (l : Landing) → Lies c l → readNumber (answerAt (shifted l o) (byteAt c (shifted l o) image prg chr)) ≡ through (readFrom c l) o image prg chr
   unfolding through readFrom placeRead shifted movedOn byteAt byteOf answerAt readNumber refused prgRom chrRom
   read-at (At (Prg i)) l =

@@ -1,18 +1,19 @@
 -- On a board in range no remainder changes an offset, and no offset reaches the kind above it. Assumes nothing.
 use Prim.Native.Nat.{ℕ, _+_, _*_, _%_, _<_}
 use mathlib.Core.Path.{_≡_}
-use mathlib.Core.Bool.{true, not, _&&_}
+use mathlib.Core.Bool.{true}
 use mathlib.Core.List.{List}
 use native.Mathlib.Omega.{arith}
-use lib.Dec.{ltb, leb, eqb}
+use lib.Dec.{eqb}
 use lib.ListN.{length}
-use borrow.Author.Tests.{ltb-true, eqb-true}
+use borrow.Author.Tests.{eqb-true}
 use Rattle.rules.proofs.Bools.{and-left, and-right, split-3}
 use Rattle.common.specs.Common.{KB8}
-use Rattle.common.specs.Answers.{refusalNumber, isHeaders}
+use Rattle.common.specs.Answers.{refusalNumber}
 use Rattle.common.specs.declared.Refusal.{Refusal}
-use Rattle.cartridge.specs.Load.{badPrg, noPowers, needed, couldLoad, ramsFit}
-use Rattle.cartridge.specs.Mappers.{mapperNumber}
+use Rattle.cartridge.specs.Load.{couldLoad, ramsFit}
+use Rattle.cartridge.proofs.OneBit.{counts-end-small}
+use Rattle.cartridge.proofs.Range.{fields}
 use Rattle.boards.specs.Registers.{fits}
 use Rattle.boards.specs.Range.{mirroringFits, inRange, isLoaded}
 use Rattle.boards.specs.declared.Board.{Board}
@@ -30,21 +31,20 @@ image-number d i h = (omega arith, omega arith)
 pub ram-number : (k i : ℕ) → i < KB8 → Is (k * 0x10000000 + i % KB8) k i
 ram-number k i h = (omega arith, omega arith)
 
--- the counts are bytes of the header
-counts : (b : Board) → inRange b ≡ true → (b .cart .prg < 256) × (b .cart .chr < 256)
-unfolding inRange couldLoad
+-- the counts are no more than a header can say
+counts : (b : Board) → inRange b ≡ true → (b .cart .prg < 4096) × (b .cart .chr < 4096)
+unfolding inRange
 counts b h =
     let c = b .cart in
-    let p = split-3 (couldLoad c) (fits (c .mapper) (b .registers)) (mirroringFits b) h in
-    let q = split-3 (not (badPrg (mapperNumber (c .mapper)) (c .prg)) && not (noPowers (c .mode) (c .prg) (c .chr))) (ltb (c .prg) 256 && ltb (c .chr) 256 && leb (needed (c .prg) (c .chr)) (c .length)) (isHeaders (c .mirroring)) (p .0) in
-    let n = split-3 (ltb (c .prg) 256) (ltb (c .chr) 256) (leb (needed (c .prg) (c .chr)) (c .length)) (q .1) in
-    (ltb-true (c .prg) 256 (n .0), ltb-true (c .chr) 256 (n .1))
+    let f = fields c (split-3 (couldLoad c) (fits (c .mapper) (b .registers)) (mirroringFits b) h .0) in
+    let e = counts-end-small (c .mode) (c .nes2) in
+    (omega (arith, e, f .prg-small), omega (arith, e, f .chr-small))
 
 -- what is known where a call is neither refused by 9 nor by 10
 pub record Served (b : Board) (image prg chr : List ℕ) : Type 0 where
   pub in-range : inRange b ≡ true
-  pub prg-blocks : b .cart .prg < 256
-  pub chr-blocks : b .cart .chr < 256
+  pub prg-blocks : b .cart .prg < 4096
+  pub chr-blocks : b .cart .chr < 4096
   pub image-length : length image ≡ b .cart .length
   pub prg-length : length prg ≡ 8192
   pub chr-length : length chr ≡ 8192

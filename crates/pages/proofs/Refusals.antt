@@ -1,11 +1,11 @@
--- The numbers of refusal end at 15. Assumes nothing.
+-- The numbers of refusal are few. Assumes nothing.
 use Prim.Native.Nat.{_<_}
 use native.Mathlib.Omega.{arith}
 use Rattle.common.specs.Answers.{refusalNumber}
 use Rattle.common.specs.declared.Refusal.{Refusal}
-use Rattle.common.specs.declared.Refusal.the-variants.{HeaderTooShort, HeaderNotInes, ImageNotInes, MapperNotTaken, TrainerOrFourScreen, PrgCountNotTaken, ImageTooShort, CountNoPowerOfTwo, RamNot8K, StateOutOfRange, BankPastData, NoChrRam, NoSuchPlace, IrqPending, TraceMalformed}
+use Rattle.common.specs.declared.Refusal.the-variants.{HeaderTooShort, HeaderNotInes, ImageNotInes, MapperNotTaken, TrainerOrFourScreen, PrgCountNotTaken, ImageTooShort, CountNoPowerOfTwo, RamNot8K, StateOutOfRange, BankPastData, NoChrRam, NoSuchPlace, IrqPending, TraceMalformed, Nes2NotTaken}
 
-pub refusals-few : (why : Refusal) → refusalNumber why < 16
+pub refusals-few : (why : Refusal) → refusalNumber why < 32
 refusals-few HeaderTooShort = omega arith
 refusals-few HeaderNotInes = omega arith
 refusals-few ImageNotInes = omega arith
@@ -21,3 +21,4 @@ refusals-few NoChrRam = omega arith
 refusals-few NoSuchPlace = omega arith
 refusals-few IrqPending = omega arith
 refusals-few TraceMalformed = omega arith
+refusals-few Nes2NotTaken = omega arith

@@ -60,6 +60,10 @@ boardChr c bank = cond (hasChrRam c) bank Empty
 unfoldable pub boardChrRam : Cartridge → ℕ → ℕ → Window
 boardChrRam c n a = cond (ltb a 0x2000) (boardChr c (Chr8K n)) Empty
 
--- MMC1 and MMC3: "PPU" means 0000-1FFF; "6000-7FFF PRG RAM"; 8000-FFFF is ROM; "Not mentioned: a read answers 0, a write does nothing"
-unfoldable pub inWindows : Window → Window → ℕ → Window
-inWindows ppu rom a = cond (ltb a 0x2000) ppu (cond (ltb a 0x6000) Empty (cond (ltb a 0x8000) PrgRam rom))
+-- MMC1 and MMC3: "6000-7FFF PRG RAM"; M-100: "Without PRG RAM .. 6000-7FFF reads 0 and ignores writes"
+unfoldable pub prgRamOf : Cartridge → Window
+prgRamOf c = cond (c .prgram) PrgRam Empty
+
+-- MMC1 and MMC3, of three windows: "PPU" means 0000-1FFF; RAM, if any, is at 6000-7FFF; 8000-FFFF is ROM; "Not mentioned: a read answers 0, a write does nothing"
+unfoldable pub inWindows : Window → Window → Window → ℕ → Window
+inWindows ppu ram rom a = cond (ltb a 0x2000) ppu (cond (ltb a 0x6000) Empty (cond (ltb a 0x8000) ram rom))

@@ -1,6 +1,6 @@
 // Where an address lands in what a board shows there, and the byte that is read or stored.
 ghost use mathlib.Core.Path.{_≡_};
-ghost use Rattle.places.specs.Windows.{landsIn, fixedBlock, fixedPrg, houseChr, houseChrRam, boardChr, boardChrRam};
+ghost use Rattle.places.specs.Windows.{landsIn, fixedBlock, fixedPrg, houseChr, houseChrRam, boardChr, boardChrRam, prgRamOf};
 ghost use Rattle.places.specs.Steps.{ifChrRam};
 ghost use Rattle.places.specs.Windows.Window.{Prg16K, Prg8K, Chr8K, Chr4K, Chr1K, PrgRam};
 ghost use Rattle.places.specs.Places.{prgAt, chrAt, byteOf, byteAt, answerAt, StoreOwes};
@@ -107,6 +107,17 @@ pub fn prg_ram(cart: Cartridge, address: u16) -> Landing
     ensures { λ r. ⌜ r ≡ landsIn cart PrgRam address ⌝ }
 {
     Landing::At(Place::PrgRam((address % 8192) as usize))
+}
+
+// MMC1 and MMC3: 6000-7FFF, where an NES 2.0 image may have no RAM.
+pub fn if_prg_ram(cart: Cartridge, address: u16) -> Landing
+    ensures { λ r. ⌜ r ≡ landsIn cart (prgRamOf cart) address ⌝ }
+{
+    if cart.prgram {
+        prg_ram(cart, address)
+    } else {
+        Landing::At(Place::Nowhere)
+    }
 }
 
 // The first PRG block, then the second, or the first again if there is only one.

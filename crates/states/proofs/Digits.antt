@@ -5,7 +5,8 @@ use mathlib.Core.Bool.{Bool, true}
 use mathlib.Core.List.{[], _∷_}
 use native.Mathlib.Omega.{arith}
 use borrow.Author.Tests.{ltb-true, eqb-true}
-use Rattle.rules.specs.Rows.{below, Fits, bytes}
+use mir.Val.{boolByte}
+use Rattle.rules.specs.Rows.{Fits, bytes}
 use Rattle.rules.proofs.Bools.{and-left, and-right, either}
 use Rattle.rules.proofs.Rows.{each, mark-small}
 use Rattle.common.specs.Common.{modeNumber, modeOf}
@@ -16,6 +17,8 @@ use Rattle.common.specs.declared.Mirroring.the-variants.{Horizontal, Vertical, 
 use Rattle.cartridge.specs.Load.{couldLoad}
 use Rattle.cartridge.specs.Mappers.{mapperNumber, isMapper, mapperType}
 use Rattle.cartridge.specs.declared.Cartridge.{Cartridge}
+use Rattle.cartridge.proofs.OneBit.{counts-end-small}
+use Rattle.cartridge.proofs.Range.{fields}
 use Rattle.cartridge.specs.declared.MapperType.{MapperType}
 use Rattle.cartridge.specs.declared.MapperType.the-variants.{Nrom, Mmc1, Uxrom, Cnrom, Mmc3}
 use Rattle.cnrom.specs.Cnrom as cnrom
@@ -55,6 +58,10 @@ mapper-there Mmc1 = refl
 mapper-there Uxrom = refl
 mapper-there Cnrom = refl
 mapper-there Mmc3 = refl
+
+-- PRG RAM has two bits
+pub note-small : (t : Bool) → boolByte t < 4
+note-small t = omega (arith, mark-small t)
 
 pub screens-small : (m : Mirroring) → mirroringDigit m < 4
 screens-small Horizontal = omega arith
@@ -108,10 +115,12 @@ mmc3-small : (k : MapperType) (m : mmc3-type.Mmc3) → partFits k Mmc3 (mmc3.fit
 unfolding mmc3.fits
 mmc3-small k m = part (Mmc3Small m) k Mmc3 (λ (h : mmc3.fits m ≡ true). search (and-left, and-right, ltb-true)) (mmc3-unused m)
 
--- both counts are below 256 where a load could leave them
-counts : (c : Cartridge) → couldLoad c ≡ true → (c .prg < 256) × (c .chr < 256)
-unfolding couldLoad
-counts c h = search (and-left, and-right, ltb-true)
+-- both counts are below 4,096 where a load could leave them
+counts : (c : Cartridge) → couldLoad c ≡ true → (c .prg < 0x1000) × (c .chr < 0x1000)
+counts c h =
+    let f = fields c h in
+    let e = counts-end-small (c .mode) (c .nes2) in
+    (omega (arith, e, f .prg-small), omega (arith, e, f .chr-small))
 
 -- every digit of a board is below its size
 pub record InRows (b : Board) : Type 0 where
@@ -130,7 +139,7 @@ in-rows b t h =
     let o = mmc1-small k (r .mmc1) (search (and-left, and-right)) in
     let m = mmc3-small k (r .mmc3) (search (and-left, and-right)) in
     record {
-      cart = search (arith, mode-small, mark-small, mapper-small, screens-small, c);
+      cart = search (arith, mode-small, mark-small, note-small, mapper-small, screens-small, c);
       banks = search (arith, n, o, t);
       regs = each bytes (r .mmc3 .regs) (t .registers);
       irq = search (arith, mark-small, m, t);

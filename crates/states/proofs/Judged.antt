@@ -1,8 +1,8 @@
 -- The four parts that the code tests are what makes words a board's: a word is that of a row exactly where it has the row's digits and nothing above the
 -- last. Assumes nothing.
 use Prim.Native.Nat.{ℕ, zero, suc, _<_}
-use mathlib.Core.Path.{_≡_, refl, sym, ap, _∙_}
-use mathlib.Core.Bool.{Bool, true, false, cond, not, _&&_, and-assoc, and-comm, and-true}
+use mathlib.Core.Path.{_≡_, refl, sym, ap, subst⁻¹, _∙_}
+use mathlib.Core.Bool.{Bool, true, false, cond, not, _&&_, _||_, and-assoc, and-comm, and-true}
 use mathlib.Core.List.{List, [], _∷_}
 use mathlib.Core.Logic.{_↔_}
 use native.Mathlib.Omega.{arith}
@@ -11,13 +11,16 @@ use lib.Dec.{eqb, ltb, leb}
 use mir.Val.{boolByte}
 use Rattle.rules.specs.Rows.{bytes, digit, Fits}
 use Rattle.rules.specs.Flat.{flatDigits, flatWord}
-use Rattle.rules.proofs.Bools.{and-left, and-right, and-both, split-3, split-4}
+use Rattle.rules.proofs.Bools.{and-left, and-right, split-3, split-4}
+use Rattle.rules.proofs.Rows.{mark-small}
 use Rattle.rules.proofs.Flat.{flat-there, flat-back, flat-small}
 use Rattle.common.specs.Common.{modeNumber, modeOf}
 use Rattle.common.specs.Answers.{isHeaders}
 use Rattle.common.specs.Answers as mirrorings
+use Rattle.common.specs.declared.Mode.{Mode}
 use Rattle.common.specs.declared.Mode.the-variants.{House, Board as OnBoard}
-use Rattle.cartridge.specs.Load.{badPrg, needed, couldLoad}
+use Rattle.cartridge.specs.Nes2.{isNes2In}
+use Rattle.cartridge.specs.Load.{badPrg, needed, countsEnd, prgRamFits, couldLoad}
 use Rattle.cartridge.specs.Mappers.{isMapper, mapperNumber}
 use Rattle.cartridge.specs.Steps.{notOneBit}
 use Rattle.cartridge.specs.declared.MapperType.{MapperType}
@@ -40,9 +43,9 @@ use Rattle.boards.proofs.Screens.{by-two-tests}
 use Rattle.boards.specs.Registers.{partFits, fits}
 use Rattle.states.specs.Words.{mirroringDigit, mirroringOf, cartSizes, cartWord, mapperOf, cartOf, screensOf, banksSizes, banksDigits, banksWord, uxromOf, cnromOf, mmc1Of, regsWord, irqSizes, irqWord, mmc3Of, wordsOf, boardIn, same}
 use Rattle.states.specs.Kept.{isKept}
-use Rattle.states.specs.Steps.{cartIsKept, modeIsKept, mmc1IsKept, banksAreKept, mmc3Fits, mmc3IsKept, inParts}
+use Rattle.states.specs.Steps.{cartIsKept, isInesWord, modeIsKept, mmc1IsKept, banksAreKept, mmc3Fits, mmc3IsKept, inParts}
 use Rattle.states.specs.declared.Words.{Words}
-use Rattle.states.proofs.Digits.{mapper-small}
+use Rattle.states.proofs.Digits.{mapper-small, note-small}
 use Rattle.states.proofs.Starts.{uxrom-start, cnrom-start, mmc1-unused, mmc3-start}
 
 both-ways : (x y : Bool) → (x ≡ true → y ≡ true) → (y ≡ true → x ≡ true) → x ≡ y
@@ -62,18 +65,35 @@ and-swap false false z = refl
 
 ruleset order = (and-assoc, and-comm, and-swap)
 
-join : (l w h p s n x o : Bool) → (((l && w) && h && p && s && n) && (x && o)) ≡ (((p && o) && (s && l && n) && h) && x && w)
-join l w h p s n x o = simp order
+join : (w h p n x o a b g : Bool) → ((w && h && p && n) && (x && o && (a && b && g))) ≡ (((p && o) && (a && b && n) && h && g) && x && w)
+join w h p n x o a b g = simp order
 
 third : (f u c w : Bool) → (f && (u && c && true && w)) ≡ (u && c && f && w)
 third f u c w = simp (order, and-true)
 
--- by the mode
-in-mode : (z : Bool) (k : MapperType) (s h : Bool) (prg chr : ℕ)
-    → cond z s (not (notOneBit OnBoard prg chr) && turnedFit k s h) ≡ (screensBy (cond z House OnBoard) k s h && not (notOneBit (cond z House OnBoard) prg chr))
-unfolding screensBy notOneBit
-in-mode true k s h prg chr = sym (and-true s)
-in-mode false k s h prg chr = and-comm (not (notOneBit OnBoard prg chr)) (turnedFit k s h)
+noted : (p x y : Bool) → (p && x && y) ≡ (x && y && (p || false))
+noted true x y = sym (and-true (x && y))
+noted false x y = and-comm false (x && y)
+
+or-true : (p : Bool) → (p || true) ≡ true
+or-true true = refl
+or-true false = refl
+
+-- by the mode; i where the word is as iNES says
+in-mode : (z : Bool) (k : MapperType) (s h mark i : Bool) (prg chr : ℕ)
+    → cond z (i && s) (not (notOneBit OnBoard prg chr) && (mark || i) && turnedFit k s h)
+    ≡ (screensBy (cond z House OnBoard) k s h && not (notOneBit (cond z House OnBoard) prg chr) && (isNes2In (cond z House OnBoard) mark || i))
+unfolding screensBy notOneBit isNes2In
+in-mode true k s h mark i prg chr = simp (order, and-true)
+in-mode false k s h mark i prg chr = simp order
+
+-- counts of a word of digits, and its note of PRG RAM, are in range exactly where the image is read as NES 2.0 or says what iNES says
+as-ines : (mode : Mode) (mark p : Bool) (prg chr : ℕ) → prg < 4096 → chr < 4096
+    → (isNes2In mode mark || (p && ltb prg 256 && ltb chr 256)) ≡ (ltb prg (countsEnd mode mark) && ltb chr (countsEnd mode mark) && (p || isNes2In mode mark))
+unfolding isNes2In countsEnd
+as-ines House mark p prg chr l m = noted p (ltb prg 256) (ltb chr 256)
+as-ines OnBoard true p prg chr l m = rw (lt-ltb prg 4096 l, lt-ltb chr 4096 m) (sym (or-true p))
+as-ines OnBoard false p prg chr l m = noted p (ltb prg 256) (ltb chr 256)
 
 -- each digit is the one of its enum
 by-bit : (P : ℕ → Type 0) → P 0 → P 1 → (d : ℕ) → d < 2 → P d
@@ -123,47 +143,54 @@ module _ (c length : ℕ) where
 
   -- what the first word packed again has
   abbrev again : List ℕ
-  again = 1 ∷ mapperNumber k ∷ digit d 2 ∷ digit d 3 ∷ digit d 4 ∷ digit d 5 ∷ 1 ∷ digit d 7 ∷ digit d 8 ∷ []
+  again = 1 ∷ mapperNumber k ∷ digit d 2 ∷ digit d 3 ∷ digit d 4 ∷ digit d 5 ∷ boolByte (eqb (digit d 6) 1) ∷ digit d 7 ∷ digit d 8 ∷ []
 
   packed : cartWord (cartOf d length) (screensOf d) ≡ flatWord cartSizes again
   packed =
       λ i. flatWord cartSizes
       (1 ∷ mapperNumber k ∷ mode-back (digit d 2) (omega arith) i ∷ mark-back (digit d 3) (omega arith) i ∷ screens-back (digit d 4) (omega arith) i
-      ∷ screens-back (digit d 5) (omega arith) i ∷ 1 ∷ digit d 7 ∷ digit d 8 ∷ [])
+      ∷ screens-back (digit d 5) (omega arith) i ∷ boolByte (eqb (digit d 6) 1) ∷ digit d 7 ∷ digit d 8 ∷ [])
 
-  whole : (eqb (digit d 0) 1 && eqb (digit d 1) (mapperNumber k) && eqb (digit d 6) 1 && ltb c 0x100000000000)
-      ≡ (ltb (digit d 8) 256 && eqb (cartWord (cartOf d length) (screensOf d)) c)
+  whole : (eqb (digit d 0) 1 && eqb (digit d 1) (mapperNumber k) && ltb (digit d 6) 2 && ltb c 0x1000000000000) ≡ eqb (cartWord (cartOf d length) (screensOf d)) c
   whole =
-      both-ways (eqb (digit d 0) 1 && eqb (digit d 1) (mapperNumber k) && eqb (digit d 6) 1 && ltb c 0x100000000000) _
-      (λ h. let p = split-4 (eqb (digit d 0) 1) (eqb (digit d 1) (mapperNumber k)) (eqb (digit d 6) 1) (ltb c 0x100000000000) h in
-      let l = ltb-true c 0x100000000000 (p .3) in
+      both-ways (eqb (digit d 0) 1 && eqb (digit d 1) (mapperNumber k) && ltb (digit d 6) 2 && ltb c 0x1000000000000) _
+      (λ h. let p = split-4 (eqb (digit d 0) 1) (eqb (digit d 1) (mapperNumber k)) (ltb (digit d 6) 2) (ltb c 0x1000000000000) h in
+      let l = ltb-true c 0x1000000000000 (p .3) in
       let e : d ≡ again =
-      λ i. eqb-true (digit d 0) 1 (p .0) i ∷ eqb-true (digit d 1) (mapperNumber k) (p .1) i ∷ digit d 2 ∷ digit d 3 ∷ digit d 4 ∷ digit d 5 ∷ eqb-true (digit d 6) 1 (p .2) i ∷ digit d 7 ∷ digit d 8 ∷ [] in
-      and-both (ltb (digit d 8) 256) _ (lt-ltb (digit d 8) 256 (omega arith)) (eq-eqb _ c (packed ∙ sym (ap (flatWord cartSizes) e) ∙ flat-back cartSizes c (omega arith))))
-      (λ h. let f : Fits cartSizes again = search (arith, mapper-small) in
-      let l = ltb-true (digit d 8) 256 (and-left (ltb (digit d 8) 256) (eqb (cartWord (cartOf d length) (screensOf d)) c) h) in
-      let w : flatWord cartSizes again ≡ c = sym packed ∙ eqb-true _ c (and-right (ltb (digit d 8) 256) (eqb (cartWord (cartOf d length) (screensOf d)) c) h) in
+      λ i. eqb-true (digit d 0) 1 (p .0) i ∷ eqb-true (digit d 1) (mapperNumber k) (p .1) i ∷ digit d 2 ∷ digit d 3 ∷ digit d 4 ∷ digit d 5 ∷ sym (mark-back (digit d 6) (ltb-true (digit d 6) 2 (p .2))) i ∷ digit d 7 ∷ digit d 8 ∷ [] in
+      eq-eqb _ c (packed ∙ sym (ap (flatWord cartSizes) e) ∙ flat-back cartSizes c (omega arith)))
+      (λ h. let f : Fits cartSizes again = search (arith, mapper-small, note-small) in
+      let w : flatWord cartSizes again ≡ c = sym packed ∙ eqb-true _ c h in
       let e : d ≡ again = ap (flatDigits cartSizes) (sym w) ∙ flat-there cartSizes again f in
-      simp (eq-eqb (digit d 0) 1 (ap (λ (t : List ℕ). digit t 0) e), eq-eqb (digit d 1) (mapperNumber k) (ap (λ (t : List ℕ). digit t 1) e), eq-eqb (digit d 6) 1 (ap (λ (t : List ℕ). digit t 6) e), lt-ltb c 0x100000000000 (omega (arith, flat-small cartSizes again f))))
+      let m : digit d 6 < 2 = subst⁻¹ (λ (n : ℕ). n < 2) (ap (λ (t : List ℕ). digit t 6) e) (mark-small (eqb (digit d 6) 1)) in
+      simp (eq-eqb (digit d 0) 1 (ap (λ (t : List ℕ). digit t 0) e), eq-eqb (digit d 1) (mapperNumber k) (ap (λ (t : List ℕ). digit t 1) e), lt-ltb (digit d 6) 2 m, lt-ltb c 0x1000000000000 (omega (arith, flat-small cartSizes again f))))
 
-  mode-of : modeIsKept k c ≡ (screensIn (cartOf d length) (screensOf d) && not (notOneBit (modeOf (digit d 2)) (digit d 7) (digit d 8)))
-  unfolding modeIsKept modeOf
+  -- both tests of the mode, and the range of the counts and of the note
+  abbrev mode : Mode
+  mode = modeOf (digit d 2)
+
+  abbrev mark : Bool
+  mark = eqb (digit d 3) 1
+
+  mode-of : modeIsKept k c
+      ≡ (screensIn (cartOf d length) (screensOf d) && not (notOneBit mode (digit d 7) (digit d 8))
+      && (ltb (digit d 7) (countsEnd mode mark) && ltb (digit d 8) (countsEnd mode mark) && (eqb (digit d 6) 1 || isNes2In mode mark)))
+  unfolding modeIsKept modeOf isInesWord
   mode-of =
-      in-mode (eqb (digit d 2) 0) k (eqb (digit d 5) (digit d 4)) (ltb (digit d 5) 2) (digit d 7) (digit d 8)
-      ∙ (λ i. screensBy (modeOf (digit d 2)) k (one-screen (digit d 5) (digit d 4) (omega arith) (omega arith) i) (is-headers (digit d 5) (omega arith) i) && not (notOneBit (modeOf (digit d 2)) (digit d 7) (digit d 8)))
-      ∙ ap (λ (t : Bool). t && not (notOneBit (modeOf (digit d 2)) (digit d 7) (digit d 8))) (by-two-tests (modeOf (digit d 2)) k (mirroringOf (digit d 4)) (mirroringOf (digit d 5)))
+      in-mode (eqb (digit d 2) 0) k (eqb (digit d 5) (digit d 4)) (ltb (digit d 5) 2) mark (isInesWord c) (digit d 7) (digit d 8)
+      ∙ (λ i. screensBy mode k (one-screen (digit d 5) (digit d 4) (omega arith) (omega arith) i) (is-headers (digit d 5) (omega arith) i) && not (notOneBit mode (digit d 7) (digit d 8)) && as-ines mode mark (eqb (digit d 6) 1) (digit d 7) (digit d 8) (omega arith) (omega arith) i)
+      ∙ (λ i. by-two-tests mode k (mirroringOf (digit d 4)) (mirroringOf (digit d 5)) i && not (notOneBit mode (digit d 7) (digit d 8)) && (ltb (digit d 7) (countsEnd mode mark) && ltb (digit d 8) (countsEnd mode mark) && (eqb (digit d 6) 1 || isNes2In mode mark)))
 
   cart-of : (cartIsKept k c length && modeIsKept k c)
       ≡ (couldLoad (cartOf d length) && screensIn (cartOf d length) (screensOf d) && eqb (cartWord (cartOf d length) (screensOf d)) c)
-  unfolding cartIsKept
+  unfolding cartIsKept prgRamFits
   cart-of =
       let p = not (badPrg (mapperNumber k) (digit d 7)) in
-      let s = ltb (digit d 7) 256 in
       let n = leb (needed (digit d 7) (digit d 8)) length in
       let x = screensIn (cartOf d length) (screensOf d) in
       let w = eqb (cartWord (cartOf d length) (screensOf d)) c in
-      (λ i. (whole i && is-headers (digit d 4) (omega arith) i && p && s && n) && mode-of i)
-      ∙ join (ltb (digit d 8) 256) w (isHeaders (mirroringOf (digit d 4))) p s n x (not (notOneBit (modeOf (digit d 2)) (digit d 7) (digit d 8)))
+      (λ i. (whole i && is-headers (digit d 4) (omega arith) i && p && n) && mode-of i)
+      ∙ join w (isHeaders (mirroringOf (digit d 4))) p n x (not (notOneBit mode (digit d 7) (digit d 8))) (ltb (digit d 7) (countsEnd mode mark)) (ltb (digit d 8) (countsEnd mode mark)) (eqb (digit d 6) 1 || isNes2In mode mark)
       ∙ ap (λ (y : Bool). y && x && w) (by-bits (cartOf d length))
 
 -- what a word of banks holds of each board

@@ -20,7 +20,7 @@ use Rattle.states.specs.Words.{cartSizes, cartDigits, cartWord, mapperOf
 use Rattle.states.specs.Kept.{isKept}
 use Rattle.states.specs.Steps.{withScreens, afterWrite, afterClock}
 use Rattle.states.specs.declared.Words.{Words}
-use Rattle.states.proofs.Digits.{mode-small, mapper-small, screens-small}
+use Rattle.states.proofs.Digits.{mode-small, note-small, mapper-small, screens-small}
 use Rattle.states.proofs.RoundTrip.{back-and-there}
 
 screens-moved : (c : Cartridge) (m : Mirroring) → Fits cartSizes (cartDigits c m) → (n : Mirroring) → withScreens (cartWord c m) n ≡ cartWord c n
@@ -53,4 +53,4 @@ module _ (w : Words) (h : isKept w ≡ true) where
   after-write v a =
       let k = mapperOf (flatDigits cartSizes (w .cart)) in
       ap (λ (x : Words). afterWrite k x (acceptedWrite (boardIn w) v a .board)) (sym (back-and-there w h))
-      ∙ write-own k (boardIn w) v a (search (arith, mode-small, mark-small, mapper-small, screens-small))
+      ∙ write-own k (boardIn w) v a (search (arith, mode-small, mark-small, note-small, mapper-small, screens-small))

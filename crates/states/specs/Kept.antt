@@ -21,7 +21,7 @@ boardDigits b =
     ++ regsDigits (b .registers .mmc3 .regs)
     ++ irqDigits (b .registers .mmc3)
 
--- a board of the Rattle program has its numbers from u8 and usize, and eight registers; the range gives the others
+-- a board of the Rattle program has its numbers from u8, u16 and usize, and eight registers; the range gives the others
 pub record OfItsTypes (b : Board) : Type 0 where
   pub image : b .cart .length < 0x10000000000000000
   pub uxrom-bank : b .registers .uxrom .bank < 0x100

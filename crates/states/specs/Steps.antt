@@ -1,6 +1,6 @@
 -- What the code tests in place of `isKept`, in four parts, and packs in place of `wordsOf`; `Judged` and `Moved` of proofs/ join them.
 use Prim.Native.Nat.{ℕ, _+_, _*_, _/_, _%_}
-use mathlib.Core.Bool.{Bool, cond, not, _&&_}
+use mathlib.Core.Bool.{Bool, cond, not, _&&_, _||_}
 use lib.Dec.{eqb, ltb, leb}
 use Rattle.rules.specs.Rows.{bytes, digit}
 use Rattle.rules.specs.Flat.{flatDigits}
@@ -21,25 +21,30 @@ use Rattle.boards.specs.declared.Board.{Board}
 use Rattle.states.specs.Words.{mirroringDigit, cartSizes, mapperOf, banksSizes, banksWord, uxromOf, cnromOf, mmc1Of, regsWord, irqSizes, irqWord, mmc3Of}
 use Rattle.states.specs.declared.Words.{Words}
 
--- the first word, in either mode: version 1, this mapper, PRG RAM, a header's mirroring; nothing above a CHR count below 256, and counts that the board takes and the image has
+-- the first word, in either mode: version 1, this mapper, PRG RAM or none, nothing above the CHR count, a header's mirroring, and counts that the board takes and the image has
 unfoldable pub cartIsKept : MapperType → ℕ → ℕ → Bool
 cartIsKept k c length =
     let d = flatDigits cartSizes c in
     eqb (digit d 0) 1
     && eqb (digit d 1) (mapperNumber k)
-    && eqb (digit d 6) 1
-    && ltb c 0x100000000000
+    && ltb (digit d 6) 2
+    && ltb c 0x1000000000000
     && ltb (digit d 4) 2
     && not (badPrg (mapperNumber k) (digit d 7))
-    && ltb (digit d 7) 256
     && leb (needed (digit d 7) (digit d 8)) length
 
--- what its mode asks of it: in house mode the header's mirroring; in board mode one that the board may have, and counts that are powers of two
+-- what an iNES header says: PRG RAM, and counts of a byte
+unfoldable pub isInesWord : ℕ → Bool
+isInesWord c =
+    let d = flatDigits cartSizes c in
+    eqb (digit d 6) 1 && ltb (digit d 7) 256 && ltb (digit d 8) 256
+
+-- what its mode asks of it: in house mode what iNES says, and the header's mirroring; in board mode the mark or what iNES says, a mirroring that the board may have, and counts that are powers of two
 unfoldable pub modeIsKept : MapperType → ℕ → Bool
 modeIsKept k c =
     let d = flatDigits cartSizes c in
-    cond (eqb (digit d 2) 0) (eqb (digit d 5) (digit d 4))
-    (not (notOneBit OnBoard (digit d 7) (digit d 8)) && turnedFit k (eqb (digit d 5) (digit d 4)) (ltb (digit d 5) 2))
+    cond (eqb (digit d 2) 0) (isInesWord c && eqb (digit d 5) (digit d 4))
+    (not (notOneBit OnBoard (digit d 7) (digit d 8)) && (eqb (digit d 3) 1 || isInesWord c) && turnedFit k (eqb (digit d 5) (digit d 4)) (ltb (digit d 5) 2))
 
 -- MMC1's digits in their ranges, and packed again the same word: no digit of another board
 unfoldable pub mmc1IsKept : ℕ → Bool

@@ -35,10 +35,11 @@ mirroringOf d = cond (eqb d 0) Horizontal (cond (eqb d 1) Vertical (cond (eqb d 
 abbrev pub cartSizes : List ℕ
 cartSizes = 0x100 ∷ 0x100 ∷ 2 ∷ 2 ∷ 4 ∷ 4 ∷ 4 ∷ 0x1000 ∷ 0x1000 ∷ []
 
--- "version 1"; PRG RAM is there on every board
+-- "version 1"; PRG RAM 1 where it is there
 abbrev pub cartDigits : Cartridge → Mirroring → List ℕ
 cartDigits c m =
-    1 ∷ mapperNumber (c .mapper) ∷ modeNumber (c .mode) ∷ boolByte (c .nes2) ∷ mirroringDigit (c .mirroring) ∷ mirroringDigit m ∷ 1 ∷ c .prg ∷ c .chr
+    1 ∷ mapperNumber (c .mapper) ∷ modeNumber (c .mode) ∷ boolByte (c .nes2) ∷ mirroringDigit (c .mirroring) ∷ mirroringDigit m ∷ boolByte (c .prgram)
+    ∷ c .prg ∷ c .chr
     ∷ []
 
 -- word 0 of a cartridge and the current mirroring
@@ -57,6 +58,7 @@ cartOf d length =
       mapper = mapperOf d;
       nes2 = eqb (digit d 3) 1;
       mirroring = mirroringOf (digit d 4);
+      prgram = eqb (digit d 6) 1;
       prg = digit d 7;
       chr = digit d 8;
       length = length;

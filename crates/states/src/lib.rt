@@ -7,7 +7,7 @@ ghost use Rattle.rules.specs.Flat.{flatWord, flatDigits};
 ghost use Rattle.common.specs.declared.Mode.the-variants.{Board as OnBoard};
 ghost use Rattle.cartridge.specs.Steps.{notOneBit};
 ghost use Rattle.states.specs.Words.{mirroringOf, mirroringDigit, cartSizes, banksSizes, irqSizes, cartWord, banksWord, regsWord, irqWord, wordsOf, mapperOf, cartOf, screensOf, uxromOf, cnromOf, mmc1Of, mmc3Of, registersOf, boardIn, digitsOf};
-ghost use Rattle.states.specs.Steps.{cartIsKept, modeIsKept, mmc1IsKept, banksAreKept, mmc3Fits, mmc3IsKept, afterClock, withScreens, afterWrite};
+ghost use Rattle.states.specs.Steps.{cartIsKept, isInesWord, modeIsKept, mmc1IsKept, banksAreKept, mmc3Fits, mmc3IsKept, afterClock, withScreens, afterWrite};
 use boards::Board;
 use boards::Registers;
 use cartridge::Cartridge;
@@ -55,9 +55,18 @@ fn mirroring_digit(mirroring: Mirroring) -> u8
     }
 }
 
-// Version 1 of the layout; and PRG RAM of 8 KB, on every board.
-fn cart_row(mapper: u8, mode: u8, nes2: u8, header: u8, screens: u8, prg: u16, chr: u16) -> u64
-    ensures { λ r. ⌜ r ≡ flatWord cartSizes (1 ∷ mapper ∷ mode ∷ nes2 ∷ header ∷ screens ∷ 1 ∷ prg ∷ chr ∷ []) ⌝ }
+// Version 1 of the layout.
+fn cart_row(
+    mapper: u8,
+    mode: u8,
+    nes2: u8,
+    header: u8,
+    screens: u8,
+    prgram: u8,
+    prg: u16,
+    chr: u16,
+) -> u64
+    ensures { λ r. ⌜ r ≡ flatWord cartSizes (1 ∷ mapper ∷ mode ∷ nes2 ∷ header ∷ screens ∷ prgram ∷ prg ∷ chr ∷ []) ⌝ }
 {
     1
         + (mapper as u64) * 0x100
@@ -65,7 +74,7 @@ fn cart_row(mapper: u8, mode: u8, nes2: u8, header: u8, screens: u8, prg: u16, c
         + (nes2 as u64) * 0x2_0000
         + (header as u64) * 0x4_0000
         + (screens as u64) * 0x10_0000
-        + 0x40_0000
+        + (prgram as u64) * 0x40_0000
         + (prg as u64) * 0x100_0000
         + (chr as u64) * 0x10_0000_0000
 }
@@ -141,6 +150,7 @@ fn cart_word(cart: Cartridge, screens: Mirroring) -> u64
         cart.nes2 as u8,
         mirroring_digit(header),
         mirroring_digit(screens),
+        cart.prgram as u8,
         cart.prg,
         cart.chr,
     )
@@ -261,7 +271,7 @@ pub fn after_clock(w: Words, next: Board) -> Words
 pub fn mapper_in(c: u64) -> MapperType
     ensures { λ r. ⌜ r ≡ mapperOf (flatDigits cartSizes c) ⌝ }
 {
-    MapperType::numbered((c / 0x100 % 0x100) as u8)
+    MapperType::numbered((c / 0x100 % 0x100) as u16)
 }
 
 pub fn cart_in(c: u64, length: u64) -> Cartridge
@@ -272,6 +282,7 @@ pub fn cart_in(c: u64, length: u64) -> Cartridge
         mapper: mapper_in(c),
         nes2: c / 0x2_0000 % 2 == 1,
         mirroring: mirroring_of(c / 0x4_0000 % 4),
+        prgram: c / 0x40_0000 % 4 == 1,
         prg: (c / 0x100_0000 % 0x1000) as u16,
         chr: (c / 0x10_0000_0000 % 0x1000) as u16,
         length: length as usize,
@@ -378,11 +389,10 @@ pub fn cart_is_kept(mapper: MapperType, c: u64, length: u64) -> bool
     let chr = c / 0x10_0000_0000 % 0x1000;
     (c % 0x100 == 1)
         & (c / 0x100 % 0x100 == (number as u64))
-        & (c / 0x40_0000 % 4 == 1)
-        & (c < 0x1000_0000_0000)
+        & (c / 0x40_0000 % 4 < 2)
+        & (c < 0x1_0000_0000_0000)
         & (c / 0x4_0000 % 4 < 2)
         & !((prg == 0) | (((number == 0) | (number == 3)) & (2 < prg)))
-        & (prg < 256)
         & (16 + prg * 16384 + chr * 8192 <= length)
 }
 
@@ -395,18 +405,26 @@ fn counts_not_one_bit(c: u64) -> bool
     (u64::count_ones(prg) != 1) | ((chr != 0) & (u64::count_ones(chr) != 1))
 }
 
+// What an iNES header says of PRG RAM and the counts: one mask.
+fn is_ines_word(c: u64) -> bool
+    ensures { λ r. ⌜ r ≡ isInesWord c ⌝ }
+{
+    (c / 0x40_0000 % 4 == 1) & (c / 0x100_0000 % 0x1000 < 256) & (c / 0x10_0000_0000 % 0x1000 < 256)
+}
+
 // What the mode asks of the first word. Two mirrorings are one where their digits are. The counts have a
 // branch of their own: joined with a test of the mirroring they would be counted bit by bit.
 pub fn mode_is_kept(mapper: MapperType, c: u64) -> bool
     ensures { λ r. ⌜ r ≡ modeIsKept mapper c ⌝ }
 {
     let same = c / 0x10_0000 % 4 == c / 0x4_0000 % 4;
+    let ines = is_ines_word(c);
     if c / 0x1_0000 % 2 == 0 {
-        same
+        ines & same
     } else if counts_not_one_bit(c) {
         false
     } else {
-        boards::turned_fit(mapper, same, c / 0x10_0000 % 4 < 2)
+        ((c / 0x2_0000 % 2 == 1) | ines) & boards::turned_fit(mapper, same, c / 0x10_0000 % 4 < 2)
     }
 }
 

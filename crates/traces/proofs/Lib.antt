@@ -3,3 +3,4 @@ pub mod Turns
 pub mod Whole
 pub mod Unique
 pub mod Readings
+pub mod Counts

@@ -26,6 +26,32 @@ pub fn image(byte6: u8, prg: u8, chr: u8) -> Vec<u8> {
     image
 }
 
+/// Byte 7 of an image that is marked NES 2.0.
+pub const MARK: u8 = 0x08;
+/// Bytes 10 and 11, the shifts of PRG RAM and of CHR RAM: none, and 8,192 bytes in both forms.
+pub const NO_RAM: u8 = 0x00;
+pub const RAM_8K: u8 = 0x07;
+pub const BATTERY_RAM_8K: u8 = 0x70;
+
+/// The header of an image that is marked NES 2.0, with counts that may be longer than a byte; byte 11 says of CHR
+/// RAM what the CHR count does.
+pub fn marked_header(byte6: u8, prg: usize, chr: usize, byte10: u8) -> [u8; HEADER] {
+    let byte9 = (chr / 256 * 16 + prg / 256) as u8;
+    let byte11 = if chr == 0 { RAM_8K } else { NO_RAM };
+    let mut header = [0; HEADER];
+    header[..4].copy_from_slice(b"NES\x1A");
+    header[4..12].copy_from_slice(&[prg as u8, chr as u8, byte6, MARK, 0, byte9, byte10, byte11]);
+    header
+}
+
+/// An image with that header, and data as `image` has them.
+pub fn marked(byte6: u8, prg: usize, chr: usize, byte10: u8) -> Vec<u8> {
+    let length = prg * PRG_BLOCK + chr * CHR_BLOCK;
+    let mut image = marked_header(byte6, prg, chr, byte10).to_vec();
+    image.extend((0..length).map(data));
+    image
+}
+
 /// The byte at a place of the data that `image` makes; it differs between any two PRG banks that a register can
 /// choose, also between those 256 KB apart.
 pub fn data(place: usize) -> u8 {

@@ -49,7 +49,13 @@ fn number(bytes: &[u8]) -> u64 {
         .fold(0, |number, &byte| number << 8 | u64::from(byte))
 }
 
+/// What it says of a history on an image that it takes.
 pub fn expected(image: &[u8], mode: Mode, calls: &[Call]) -> Expected {
+    said(image, mode, calls).expect("the second reading takes the image")
+}
+
+/// What it says, or what the load answers where it refuses the image.
+pub fn said(image: &[u8], mode: Mode, calls: &[Call]) -> Result<Expected, u16> {
     let mut told = vec![u8::from(mode == Mode::Board)];
     told.extend((image.len() as u32).to_be_bytes());
     told.extend(image);
@@ -65,18 +71,22 @@ pub fn expected(image: &[u8], mode: Mode, calls: &[Call]) -> Expected {
     let output = child.wait_with_output().expect("it comes to its end");
     assert!(output.status.success());
     let said = output.stdout;
-    assert_eq!(number(&said[..2]), 0, "the second reading refuses the load");
+    let answer = number(&said[..2]) as u16;
+    if answer != 0 {
+        assert_eq!(said.len(), 2, "nothing is said of a board that is none");
+        return Err(answer);
+    }
     let (answers, rest) = said.split_at(2 + 2 * calls.len());
     let (digits, rams) = rest.split_at(8 * DIGITS);
     assert_eq!(rams.len(), 2 * RAM_LENGTH);
-    Expected {
+    Ok(Expected {
         answers: answers[2..]
             .chunks(2)
             .map(|pair| number(pair) as u16)
             .collect(),
         digits: digits.chunks(8).map(number).collect(),
         rams: rams.to_vec(),
-    }
+    })
 }
 
 /// The number that the exported function answers.

@@ -9,5 +9,5 @@ unfolding cartridgeOf
 cartridge-of-spec =
     tie.close
     (tie.spec
-    (λ c κs. search picks) (λ c κs. search picks) (λ c κs. search picks) (λ c κs. search picks) (λ c. search picks)
-    (λ c. search picks) (λ c. cc))
+    (λ c κs. search picks) (λ c κs. search picks) (λ c κs. search picks) (λ c κs. search picks) (λ c κs. search picks)
+    (λ c κs. search picks) (λ c κs. search picks) (λ c. cc))

@@ -10,4 +10,5 @@ is-power-of-two-spec =
     tie.close
     (tie.spec
     (λ c. search picks) (λ c. search picks) (λ c. search picks) (λ c. search picks) (λ c. search picks)
-    (λ c. search picks) (λ c. search picks) (λ c. search picks) (λ c. search picks))
+    (λ c. search picks) (λ c. search picks) (λ c. search picks) (λ c. search picks) (λ c. search picks)
+    (λ c. search picks) (λ c. search picks) (λ c. search picks))

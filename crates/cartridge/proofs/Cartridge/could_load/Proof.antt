@@ -8,6 +8,6 @@ pub could-load-spec : {M : Type 1} → statement M
 could-load-spec =
     tie.close
     (tie.spec
-    (λ c κs. search picks) (λ c κs. search picks) (λ c κs. search picks) (λ c κs. search picks) (λ c. search picks)
-    (λ c κs. search picks)
-    (λ c. simp (c .is-headers .ensures, c .before .before .needed .ensures, c .before .before .before .before .before .not-one-bit .ensures, c .before .before .before .before .before .before .bad-prg .ensures, c .before .before .before .before .before .before .before .number .ensures) (by-bits (c .before .before .before .before .before .before .before .before .args .self))))
+    (λ c κs. search picks) (λ c κs. search picks) (λ c. search picks) (λ c κs. search picks) (λ c κs. search picks)
+    (λ c κs. search picks) (λ c. search picks) (λ c κs. search picks) (λ c κs. search picks)
+    (λ c. simp (c .prg-ram-fits .ensures, c .before .is-headers .ensures, c .before .before .before .needed .ensures, c .before .before .before .before .before .before .not-one-bit .ensures, c .before .before .before .before .before .before .before .bad-prg .ensures, c .before .before .before .before .before .before .before .before .number .ensures, c .before .before .before .before .before .before .before .before .before .counts-end .ensures) (by-bits (c .before .before .before .before .before .before .before .before .before .before .args .self))))

@@ -10,11 +10,11 @@ read8-spec =
     tie.close
     (tie.spec
     (λ c. search picks) (λ c. search picks) (λ c κs. search picks) (λ c κs. search picks) (λ c κs. search picks)
-    (λ c κs. search picks) (λ c. search picks) (λ c κs. search picks) (λ c κs. search picks) (λ c κs. search picks)
-    (λ c κs. search picks) (λ c κs. search picks)
+    (λ c κs. search picks) (λ c κs. search picks) (λ c κs. search picks) (λ c κs. search picks) (λ c κs. search picks)
+    (λ c κs. search picks)
     (λ c. let a = c .before .before .before .before .before .before .args in simp (c .byte-at .ensures, c .before .lower-chr-bank .ensures) (below-1000 (a .self) (a .cart) (a .image .now) (a .prg .now) (a .chr .now) (a .address) (omega arith)))
     (λ c. let a = c .before .before .before .before .before .before .before .args in simp (c .byte-at2 .ensures, c .before .upper-chr-bank .ensures) (below-2000 (a .self) (a .cart) (a .image .now) (a .prg .now) (a .chr .now) (a .address) (omega arith) (omega arith)))
     (λ c. let a = c .before .before .before .before .before .before .args in below-6000 (a .self) (a .cart) (a .image .now) (a .prg .now) (a .chr .now) (a .address) (omega arith) (omega arith))
-    (λ c. let a = c .before .before .before .before .before .before .before .before .args in simp (c .byte-at3 .ensures) (below-8000 (a .self) (a .cart) (a .image .now) (a .prg .now) (a .chr .now) (a .address) (omega arith) (omega arith)))
-    (λ c. let a = c .before .before .before .before .before .before .before .before .before .before .args in simp (c .byte-at4 .ensures, c .before .lower-prg-bank .ensures) (below-c000 (a .self) (a .cart) (a .image .now) (a .prg .now) (a .chr .now) (a .address) (omega arith) (omega arith)))
-    (λ c. let a = c .before .before .before .before .before .before .before .before .before .before .args in simp (c .byte-at5 .ensures, c .before .upper-prg-bank .ensures) (above-c000 (a .self) (a .cart) (a .image .now) (a .prg .now) (a .chr .now) (a .address) (omega arith))))
+    (λ c. let a = c .before .before .before .before .before .before .before .before .args in simp (c .prg-ram-byte .ensures) (below-8000 (a .self) (a .cart) (a .image .now) (a .prg .now) (a .chr .now) (a .address) (omega arith) (omega arith)))
+    (λ c. let a = c .before .before .before .before .before .before .before .before .before .before .args in simp (c .byte-at3 .ensures, c .before .lower-prg-bank .ensures) (below-c000 (a .self) (a .cart) (a .image .now) (a .prg .now) (a .chr .now) (a .address) (omega arith) (omega arith)))
+    (λ c. let a = c .before .before .before .before .before .before .before .before .before .before .args in simp (c .byte-at4 .ensures, c .before .upper-prg-bank .ensures) (above-c000 (a .self) (a .cart) (a .image .now) (a .prg .now) (a .chr .now) (a .address) (omega arith))))

@@ -1,0 +1,98 @@
+-- The range of a cartridge, taken apart and put together; a count that board mode takes is at most 2,048. Assumes nothing.
+use Prim.Native.Nat.{ℕ, _≤_, _<_}
+use mathlib.Core.Path.{_≡_, refl, sym, _∙_}
+use mathlib.Core.Bool.{Bool, true, false, false≢true, not, _&&_, _||_}
+use native.Mathlib.Omega.{arith}
+use borrow.Author.Tests.{ltb-true, ltb-false, leb-true, lt-ltb, le-leb, ne-eqb, eqb-true, not-true}
+use lib.Dec.{ltb, leb, eqb}
+use Rattle.rules.proofs.Bools.{and-left, and-right, and-both, split-3, split-4}
+use Rattle.common.specs.Answers.{isHeaders}
+use Rattle.common.specs.declared.Mode.the-variants.{Board}
+use Rattle.cartridge.specs.Load.{isPower, noPowers, badPrg, needed, countsEnd, prgRamFits, couldLoad}
+use Rattle.cartridge.specs.Mappers.{mapperNumber}
+use Rattle.cartridge.specs.declared.Cartridge.{Cartridge}
+
+-- what the range says of each field
+pub record Fields (c : Cartridge) : Type 0 where
+  pub prg-taken : badPrg (mapperNumber (c .mapper)) (c .prg) ≡ false
+  pub powers : noPowers (c .mode) (c .prg) (c .chr) ≡ false
+  pub prg-small : c .prg < countsEnd (c .mode) (c .nes2)
+  pub chr-small : c .chr < countsEnd (c .mode) (c .nes2)
+  pub room : needed (c .prg) (c .chr) ≤ c .length
+  pub headers : isHeaders (c .mirroring) ≡ true
+  pub noted : prgRamFits c ≡ true
+
+negate : {x : Bool} → x ≡ false → not x ≡ true
+negate e = rw e refl
+
+join : {x y : Bool} → x ≡ true → y ≡ true → (x && y) ≡ true
+join {x} {y} p q = and-both x y p q
+
+module _ (c : Cartridge) where
+  abbrev bad : Bool
+  bad = badPrg (mapperNumber (c .mapper)) (c .prg)
+
+  abbrev odd : Bool
+  odd = noPowers (c .mode) (c .prg) (c .chr)
+
+  abbrev prgs : Bool
+  prgs = ltb (c .prg) (countsEnd (c .mode) (c .nes2))
+
+  abbrev chrs : Bool
+  chrs = ltb (c .chr) (countsEnd (c .mode) (c .nes2))
+
+  abbrev enough : Bool
+  enough = leb (needed (c .prg) (c .chr)) (c .length)
+
+  pub fields : couldLoad c ≡ true → Fields c
+  unfolding couldLoad
+  fields h =
+      let p = split-4 (not bad && not odd) (prgs && chrs && enough) (isHeaders (c .mirroring)) (prgRamFits c) h in
+      let q = split-3 prgs chrs enough (p .1) in
+      record {
+        prg-taken = not-true bad (and-left (not bad) (not odd) (p .0));
+        powers = not-true odd (and-right (not bad) (not odd) (p .0));
+        prg-small = ltb-true (c .prg) (countsEnd (c .mode) (c .nes2)) (q .0);
+        chr-small = ltb-true (c .chr) (countsEnd (c .mode) (c .nes2)) (q .1);
+        room = leb-true (needed (c .prg) (c .chr)) (c .length) (q .2);
+        headers = p .2;
+        noted = p .3;
+      }
+
+  pub in-range : Fields c → couldLoad c ≡ true
+  unfolding couldLoad
+  in-range f =
+      join
+      (join
+      (join (join (negate (f .prg-taken)) (negate (f .powers)))
+      (join
+      (join (lt-ltb (c .prg) (countsEnd (c .mode) (c .nes2)) (f .prg-small)) (lt-ltb (c .chr) (countsEnd (c .mode) (c .nes2)) (f .chr-small)))
+      (le-leb (needed (c .prg) (c .chr)) (c .length) (f .room))))
+      (f .headers))
+      (f .noted)
+
+above-the-list : (n : ℕ) → 2048 < n → isPower n ≡ false
+unfolding isPower
+above-the-list n l = rw (ne-eqb 1 n (λ e. omega (arith, l, e)), ne-eqb 2 n (λ e. omega (arith, l, e)), ne-eqb 4 n (λ e. omega (arith, l, e)), ne-eqb 8 n (λ e. omega (arith, l, e)), ne-eqb 16 n (λ e. omega (arith, l, e)), ne-eqb 32 n (λ e. omega (arith, l, e)), ne-eqb 64 n (λ e. omega (arith, l, e)), ne-eqb 128 n (λ e. omega (arith, l, e)), ne-eqb 256 n (λ e. omega (arith, l, e)), ne-eqb 512 n (λ e. omega (arith, l, e)), ne-eqb 1024 n (λ e. omega (arith, l, e)), ne-eqb 2048 n (λ e. omega (arith, l, e))) refl
+
+power-small : (n : ℕ) → isPower n ≡ true → n ≤ 2048
+power-small n e = go (ltb 2048 n) refl
+  where
+    go : (t : Bool) → ltb 2048 n ≡ t → n ≤ 2048
+    go true q = absurd (false≢true (sym (above-the-list n (ltb-true 2048 n q)) ∙ e))
+    go false q = ltb-false 2048 n q
+
+-- neither is over the other: a PRG count and a CHR count that board mode takes
+pub counts-small : (prg chr : ℕ) → noPowers Board prg chr ≡ false → (prg ≤ 2048) × (chr ≤ 2048)
+unfolding noPowers
+counts-small prg chr e = (power-small prg (first (isPower prg) _ e), second (isPower prg) (eqb chr 0) (isPower chr) refl refl e)
+  where
+    first : (x y : Bool) → (not x || y) ≡ false → x ≡ true
+    first true y q = refl
+    first false y q = sym q
+
+    second : (x z y : Bool) → eqb chr 0 ≡ z → isPower chr ≡ y → (not x || (not z && not y)) ≡ false → chr ≤ 2048
+    second x true y f g q = omega (arith, eqb-true chr 0 f)
+    second x false true f g q = power-small chr g
+    second true false false f g q = absurd (false≢true (sym q))
+    second false false false f g q = absurd (false≢true (sym q))
