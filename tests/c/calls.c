@@ -490,7 +490,14 @@ static void check_load_order_under_the_mark(void) {
     image[9] = 0x10;
     image[11] = 0x70;
     expect("marked, CHR RAM and 256 blocks of CHR ROM, before 6", load(BIEKKARUL_BOARD), sixteen);
-    image[9] = 0x00;
+    expect_untouched("loads refused by 16");
+}
+
+/* "6 to 8 the longer counts". */
+static void check_longer_counts_in_order(void) {
+    make_marked(0x00, 3, 0, 0x00);
+    image_length = HEADER_LENGTH + PRG_BLOCK;
+    keep();
     expect("marked, 6", load(BIEKKARUL_BOARD), REFUSED(BIEKKARUL_PRG_COUNT_NOT_TAKEN));
     image[6] = 0x20;
     image[4] = 0;
@@ -716,6 +723,7 @@ int main(void) {
     check_load_clears();
     check_load_order();
     check_load_order_under_the_mark();
+    check_longer_counts_in_order();
     check_ram_shifts();
     check_no_prg_ram();
     check_wrong_lengths();

@@ -5,7 +5,7 @@ use mathlib.Core.Bool.{Bool, true, false, false≢true, not, _&&_, _||_}
 use native.Mathlib.Omega.{arith}
 use borrow.Author.Tests.{ltb-true, ltb-false, leb-true, lt-ltb, le-leb, ne-eqb, eqb-true, not-true}
 use lib.Dec.{ltb, leb, eqb}
-use Rattle.rules.proofs.Bools.{and-left, and-right, and-both, split-3, split-4}
+use Rattle.rules.proofs.Bools.{and-left, and-right, join, split-3, split-4}
 use Rattle.common.specs.Answers.{isHeaders}
 use Rattle.common.specs.declared.Mode.the-variants.{Board}
 use Rattle.cartridge.specs.Load.{isPower, noPowers, badPrg, needed, countsEnd, prgRamFits, couldLoad}
@@ -24,9 +24,6 @@ pub record Fields (c : Cartridge) : Type 0 where
 
 negate : {x : Bool} → x ≡ false → not x ≡ true
 negate e = rw e refl
-
-join : {x y : Bool} → x ≡ true → y ≡ true → (x && y) ≡ true
-join {x} {y} p q = and-both x y p q
 
 module _ (c : Cartridge) where
   abbrev bad : Bool

@@ -2,13 +2,13 @@
 -- Assumes nothing.
 use Prim.Native.Nat.{ℕ, zero, suc, _%_, _<_, _≤_}
 use mathlib.Core.Path.{_≡_, refl, sym, ap, _∙_, subst, subst⁻¹}
-use mathlib.Core.Bool.{Bool, true, false, false≢true, cond, not, _&&_, _||_}
+use mathlib.Core.Bool.{Bool, true, false, false≢true, cond, not, _||_}
 use mathlib.Core.List.{List, [], _∷_}
 use native.Mathlib.Omega.{arith}
 use lib.Dec.{ltb, eqb}
 use lib.ListN.{length}
 use borrow.Author.Tests.{ltb-false, lt-ltb, eq-eqb}
-use Rattle.rules.proofs.Bools.{and-both, split-3, split-4, either}
+use Rattle.rules.proofs.Bools.{join, split-3, split-4, either}
 use Rattle.common.specs.Answers.{same, isHeaders}
 use Rattle.common.proofs.Answers.{same-self}
 use Rattle.common.specs.declared.Mode.{Mode}
@@ -60,9 +60,6 @@ use Rattle.laws.proofs.Cases.{by-test}
 use Rattle.laws.proofs.Accepting.{after-write}
 use Rattle.laws.proofs.Mmc1Ranges as mmc1-ranges
 use Rattle.laws.proofs.Mmc3Ranges as mmc3-ranges
-
-join : {x y : Bool} → x ≡ true → y ≡ true → (x && y) ≡ true
-join {x} {y} e f = and-both x y e f
 
 -- registers are in range part by part
 abbrev Parts : MapperType → Registers → Type 0

@@ -1,7 +1,7 @@
 -- P lines of our own for M-100, worked out by hand from document 02 and held under one claim; and the images that are too long for a table.
 use Prim.Native.Nat.{ℕ, _+_, _-_}
 use mathlib.Core.Bool.{Bool, true, false}
-use mathlib.Core.List.{List, [], _∷_, _++_}
+use mathlib.Core.List.{List, [], _∷_, _++_, map}
 use lib.ListN.{replicate}
 use Rattle.common.specs.declared.Mode.{Mode}
 use Rattle.common.specs.declared.Mode.the-variants.{House, Board as OnBoard}
@@ -59,6 +59,22 @@ readsRam mode b =
     let s = imageOf 16400 b in
     callsOn (loadOf mode s .board) (lent s (replicate 8192 5) ram) (Read 0x6000)
 
+-- a row for each of some bytes: a load in board mode of the header that has the byte
+abbrev pub each : (ℕ → Bytes) → List ℕ → List Seen → List Row
+each header bytes wanted = map (λ (v : ℕ). row (loads OnBoard (header v)) wanted) bytes
+
+-- MMC1 with this byte 8, nothing else amiss
+abbrev pub withEight : ℕ → Bytes
+withEight v = marked 1 0 0x10 v 0x00 0x07 0x07
+
+-- with this byte 10
+abbrev pub withTen : ℕ → Bytes
+withTen v = marked 1 0 0x10 0x00 0x00 v 0x07
+
+-- with this byte 11
+abbrev pub withEleven : ℕ → Bytes
+withEleven v = marked 1 0 0x10 0x00 0x00 0x07 v
+
 -- a cartridge with this mark and this note of PRG RAM
 abbrev pub cartOf : Mode → Bool → Bool → MapperType → ℕ → ℕ → Cartridge
 cartOf mode mark ram k prg chr =
@@ -88,39 +104,26 @@ taken = number 0 ∷ []
 abbrev pub rows : List Row
 rows =
     -- "the low nibble of byte 8 extends the mapper number": 256 + 1 is 4, not 16, whatever the submapper
-    row (loads OnBoard (marked 1 0 0x10 0x01 0x00 0x07 0x07)) (refusal 4)
-    ∷ row (loads OnBoard (marked 1 0 0x10 0x1F 0x00 0x07 0x07)) (refusal 4)
-    ∷ row (loads OnBoard (marked 1 0 0x10 0x08 0x00 0x07 0x07)) (refusal 4)
+    each withEight (0x01 ∷ 0x08 ∷ 0x1F ∷ []) (refusal 4)
+    -- "its high nibble is the submapper and is to be 0"
+    ++ each withEight (0x10 ∷ 0x80 ∷ 0xF0 ∷ []) (refusal 16)
+    -- "in each byte the two nibbles are both 0, or one is 0 and the other 7": of byte 10, and of byte 11
+    ++ each withTen (0x06 ∷ 0x08 ∷ 0x17 ∷ 0x60 ∷ 0x71 ∷ 0x77 ∷ 0x80 ∷ []) (refusal 16)
+    ++ each withTen (0x00 ∷ 0x07 ∷ 0x70 ∷ []) taken
+    ++ each withEleven (0x06 ∷ 0x08 ∷ 0x17 ∷ 0x60 ∷ 0x71 ∷ 0x77 ∷ 0x80 ∷ []) (refusal 16)
+    ++ each withEleven (0x07 ∷ 0x70 ∷ []) taken
     -- byte 7's own nibble counts as before; its low bits are not asked for
-    ∷ row (loads OnBoard (withSeven 0x18 0x00)) (refusal 4)
+    ++ row (loads OnBoard (withSeven 0x18 0x00)) (refusal 4)
     ∷ row (loads OnBoard (withSeven 0x0B 0x10)) (refusal 16)
     ∷ row (loads OnBoard (withSeven 0x0B 0x00)) taken
-    -- "its high nibble is the submapper and is to be 0": 16, not 6, and after 5
+    -- the submapper: 16, not 6, and after 5
     ∷ row (loads OnBoard (marked 0 0 0x10 0x10 0x00 0x07 0x07)) (refusal 16)
-    ∷ row (loads OnBoard (marked 1 0 0x10 0x80 0x00 0x07 0x07)) (refusal 16)
-    ∷ row (loads OnBoard (marked 1 0 0x10 0xF0 0x00 0x07 0x07)) (refusal 16)
     ∷ row (loads OnBoard (marked 1 0 0x14 0x10 0x00 0x07 0x07)) (refusal 5)
     -- "a nibble of 15 is the exponent form, which we do not take": 16, not 6 by a PRG count of 0, and not 7
     ∷ row (loads OnBoard (marked 0 0 0x20 0x00 0xF0 0x07 0x00)) (refusal 16)
     ∷ row (loads OnBoard (marked 0 0 0x20 0x00 0x0F 0x07 0x07)) (refusal 16)
     ∷ row (loads OnBoard (marked 0 0 0x20 0x00 0xE0 0x07 0x00)) (refusal 6)
     ∷ row (loads OnBoard (marked 0 0 0x20 0x00 0x0E 0x07 0x07)) (refusal 7)
-    -- "both 0, or one is 0 and the other 7", of byte 10
-    ∷ row (loads OnBoard (marked 1 0 0x10 0x00 0x00 0x77 0x07)) (refusal 16)
-    ∷ row (loads OnBoard (marked 1 0 0x10 0x00 0x00 0x06 0x07)) (refusal 16)
-    ∷ row (loads OnBoard (marked 1 0 0x10 0x00 0x00 0x08 0x07)) (refusal 16)
-    ∷ row (loads OnBoard (marked 1 0 0x10 0x00 0x00 0x17 0x07)) (refusal 16)
-    ∷ row (loads OnBoard (marked 1 0 0x10 0x00 0x00 0x60 0x07)) (refusal 16)
-    ∷ row (loads OnBoard (marked 1 0 0x10 0x00 0x00 0x71 0x07)) (refusal 16)
-    ∷ row (loads OnBoard (marked 1 0 0x10 0x00 0x00 0x00 0x07)) taken
-    ∷ row (loads OnBoard (marked 1 0 0x10 0x00 0x00 0x07 0x07)) taken
-    ∷ row (loads OnBoard (marked 1 0 0x10 0x00 0x00 0x70 0x07)) taken
-    -- and of byte 11
-    ∷ row (loads OnBoard (marked 1 0 0x10 0x00 0x00 0x07 0x77)) (refusal 16)
-    ∷ row (loads OnBoard (marked 1 0 0x10 0x00 0x00 0x07 0x06)) (refusal 16)
-    ∷ row (loads OnBoard (marked 1 0 0x10 0x00 0x00 0x07 0x71)) (refusal 16)
-    ∷ row (loads OnBoard (marked 1 0 0x10 0x00 0x00 0x07 0x80)) (refusal 16)
-    ∷ row (loads OnBoard (marked 1 0 0x10 0x00 0x00 0x07 0x70)) taken
     -- "CHR RAM is present exactly when the CHR count is 0, and byte 11 has to say the same": said not at all; said twice, of a count that byte 9 has alone too
     ∷ row (loads OnBoard (marked 1 0 0x10 0x00 0x00 0x07 0x00)) (refusal 16)
     ∷ row (loads OnBoard (marked 1 1 0x10 0x00 0x00 0x07 0x07)) (refusal 16)

@@ -14,6 +14,10 @@ pub and-both : (x y : Bool) → x ≡ true → y ≡ true → (x && y) ≡ true
 and-both true y e f = f
 and-both false y e f = e
 
+-- the same where both tests can be read off the facts
+pub join : {x y : Bool} → x ≡ true → y ≡ true → (x && y) ≡ true
+join {x} {y} e f = and-both x y e f
+
 pub split-3 : (a b c : Bool) → (a && b && c) ≡ true → (a ≡ true) × (b ≡ true) × (c ≡ true)
 split-3 a b c e = let l = and-left (a && b) c e in (and-left a b l, and-right a b l, and-right (a && b) c e)
 
