@@ -1,5 +1,5 @@
 pub mod Mappers
 pub mod Order
-pub mod OneBit
+pub mod Powers
 pub mod Nes2
 pub mod Range

@@ -1,16 +1,19 @@
 -- The range of a cartridge, taken apart and put together; a count that board mode takes is at most 2,048. Assumes nothing.
 use Prim.Native.Nat.{ℕ, _≤_, _<_}
-use mathlib.Core.Path.{_≡_, refl, sym, _∙_}
+use mathlib.Core.Path.{_≡_, refl, sym, subst}
 use mathlib.Core.Bool.{Bool, true, false, false≢true, not, _&&_, _||_}
 use native.Mathlib.Omega.{arith}
-use borrow.Author.Tests.{ltb-true, ltb-false, leb-true, lt-ltb, le-leb, ne-eqb, eqb-true, not-true}
+use borrow.Author.Tests.{ltb-true, leb-true, lt-ltb, le-leb, eqb-true, not-true}
 use lib.Dec.{ltb, leb, eqb}
 use Rattle.rules.proofs.Bools.{and-left, and-right, join, split-3, split-4}
 use Rattle.common.specs.Answers.{isHeaders}
-use Rattle.common.specs.declared.Mode.the-variants.{Board}
+use Rattle.common.specs.declared.Mode.{Mode}
+use Rattle.common.specs.declared.Mode.the-variants.{House, Board}
+use Rattle.cartridge.specs.Nes2.{isNes2In}
 use Rattle.cartridge.specs.Load.{isPower, noPowers, badPrg, needed, countsEnd, prgRamFits, couldLoad}
 use Rattle.cartridge.specs.Mappers.{mapperNumber}
 use Rattle.cartridge.specs.declared.Cartridge.{Cartridge}
+use Rattle.cartridge.proofs.Powers.{power-small}
 
 -- what the range says of each field
 pub record Fields (c : Cartridge) : Type 0 where
@@ -68,21 +71,16 @@ module _ (c : Cartridge) where
       (f .headers))
       (f .noted)
 
-above-the-list : (n : ℕ) → 2048 < n → isPower n ≡ false
-unfolding isPower
-above-the-list n l = rw (ne-eqb 1 n (λ e. omega (arith, l, e)), ne-eqb 2 n (λ e. omega (arith, l, e)), ne-eqb 4 n (λ e. omega (arith, l, e)), ne-eqb 8 n (λ e. omega (arith, l, e)), ne-eqb 16 n (λ e. omega (arith, l, e)), ne-eqb 32 n (λ e. omega (arith, l, e)), ne-eqb 64 n (λ e. omega (arith, l, e)), ne-eqb 128 n (λ e. omega (arith, l, e)), ne-eqb 256 n (λ e. omega (arith, l, e)), ne-eqb 512 n (λ e. omega (arith, l, e)), ne-eqb 1024 n (λ e. omega (arith, l, e)), ne-eqb 2048 n (λ e. omega (arith, l, e))) refl
+pub counts-end-small : (mode : Mode) (mark : Bool) → countsEnd mode mark ≤ 4096
+unfolding countsEnd isNes2In
+counts-end-small House mark = omega arith
+counts-end-small Board true = omega arith
+counts-end-small Board false = omega arith
 
-power-small : (n : ℕ) → isPower n ≡ true → n ≤ 2048
-power-small n e = go (ltb 2048 n) refl
-  where
-    go : (t : Bool) → ltb 2048 n ≡ t → n ≤ 2048
-    go true q = absurd (false≢true (sym (above-the-list n (ltb-true 2048 n q)) ∙ e))
-    go false q = ltb-false 2048 n q
-
--- neither is over the other: a PRG count and a CHR count that board mode takes
-pub counts-small : (prg chr : ℕ) → noPowers Board prg chr ≡ false → (prg ≤ 2048) × (chr ≤ 2048)
+-- a PRG count and a CHR count that board mode takes
+counts-small : (prg chr : ℕ) → prg < 4096 → chr < 4096 → noPowers Board prg chr ≡ false → (prg ≤ 2048) × (chr ≤ 2048)
 unfolding noPowers
-counts-small prg chr e = (power-small prg (first (isPower prg) _ e), second (isPower prg) (eqb chr 0) (isPower chr) refl refl e)
+counts-small prg chr p c e = (power-small prg p (first (isPower prg) _ e), second (isPower prg) (eqb chr 0) (isPower chr) refl refl e)
   where
     first : (x y : Bool) → (not x || y) ≡ false → x ≡ true
     first true y q = refl
@@ -90,6 +88,13 @@ counts-small prg chr e = (power-small prg (first (isPower prg) _ e), second (isP
 
     second : (x z y : Bool) → eqb chr 0 ≡ z → isPower chr ≡ y → (not x || (not z && not y)) ≡ false → chr ≤ 2048
     second x true y f g q = omega (arith, eqb-true chr 0 f)
-    second x false true f g q = power-small chr g
+    second x false true f g q = power-small chr c g
     second true false false f g q = absurd (false≢true (sym q))
     second false false false f g q = absurd (false≢true (sym q))
+
+pub board-counts-small : (c : Cartridge) → Fields c → c .mode ≡ Board → (c .prg ≤ 2048) × (c .chr ≤ 2048)
+board-counts-small c f e =
+    let s = counts-end-small (c .mode) (c .nes2) in
+    let p = f .prg-small in
+    let q = f .chr-small in
+    counts-small (c .prg) (c .chr) (omega (arith, s, p)) (omega (arith, s, q)) (subst (λ (m : Mode). noPowers m (c .prg) (c .chr) ≡ false) e (f .powers))

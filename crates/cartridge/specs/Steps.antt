@@ -1,10 +1,8 @@
--- What the code tests in place of a definition; `Order` and `OneBit` of proofs/ join the two.
+-- What the code tests in place of a definition; `Order` of proofs/ joins the two.
 use Prim.Native.Nat.{ℕ}
-use mathlib.Core.Bool.{Bool, false, cond, not, _&&_, _||_}
-use lib.Count.{ones}
-use lib.Dec.{ltb, eqb}
+use mathlib.Core.Bool.{Bool, cond, not, _||_}
+use lib.Dec.{ltb}
 use Rattle.common.specs.declared.Mode.{Mode}
-use Rattle.common.specs.declared.Mode.the-variants.{House, Board}
 use Rattle.common.specs.declared.Refusal.the-variants.{HeaderTooShort, HeaderNotInes, ImageNotInes, MapperNotTaken, TrainerOrFourScreen, PrgCountNotTaken, ImageTooShort, CountNoPowerOfTwo, RamNot8K, Nes2NotTaken}
 use Rattle.cartridge.specs.Header.{isSpecial}
 use Rattle.cartridge.specs.Nes2.{mapperIn, prgIn, chrIn, nes2NotTaken}
@@ -43,12 +41,3 @@ verdictOn h ines len mode rams =
     (badPrg (mapperIn mode h) (prgIn mode h))
     (ltb len (needed (prgIn mode h) (chrIn mode h)))
     (noPowers mode (prgIn mode h) (chrIn mode h))
-
--- one bit of a number is 1
-unfoldable pub hasOneBit : ℕ → Bool
-hasOneBit n = eqb (ones n) 1
-
--- counts that board mode refuses, by their bits
-unfoldable pub notOneBit : Mode → ℕ → ℕ → Bool
-notOneBit House prg chr = false
-notOneBit Board prg chr = not (hasOneBit prg) || (not (eqb chr 0) && not (hasOneBit chr))

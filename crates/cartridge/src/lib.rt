@@ -7,7 +7,7 @@ ghost use Rattle.cartridge.specs.Mappers.{mapperNumber, isMapper, mapper
 ghost use Rattle.cartridge.specs.Header.{isInes, headerOf, headerRead, totalSize, mapperOf, mirroringOf, isNes2, isSpecial};
 ghost use Rattle.cartridge.specs.Nes2.{isNes2In, extended, longer, mapperIn, prgIn, chrIn, hasSubmapper, hasExponent, isShifts, saysOtherwise, nes2NotTaken, hasPrgRam};
 ghost use Rattle.cartridge.specs.Load.{isPower, noPowers, badPrg, needed, ramsFit, verdict, cartridgeOf, loadedAs, ramAfter, LoadOwes, prgTotal, hasChrRam, chrTotal, prgRom, chrRom, chrData, lastPrg, countsEnd, prgRamFits, couldLoad};
-ghost use Rattle.cartridge.specs.Steps.{headerAnswer, firstOf, verdictOn, hasOneBit, notOneBit};
+ghost use Rattle.cartridge.specs.Steps.{headerAnswer, firstOf, verdictOn};
 use common::Mirroring;
 use common::Mode;
 use common::Refusal;
@@ -352,7 +352,7 @@ impl Cartridge {
         let mirroring = self.mirroring;
         let end = counts_end(mode, self.nes2);
         let counts = !bad_prg(mapper.number() as u16, self.prg)
-            & !not_one_bit(mode, self.prg, self.chr);
+            & !no_powers(mode, self.prg as u64, self.chr as u64);
         let size = (self.prg < end)
             & (self.chr < end)
             & ((needed(self.prg, self.chr) as usize) <= self.length);
@@ -375,9 +375,9 @@ fn counts_end(mode: Mode, mark: bool) -> u16
 }
 
 // Refusal 8 consults this list.
-const POWERS_OF_TWO: [u16; 12] = [1, 2, 4, 8, 16, 32, 64, 128, 256, 512, 1024, 2048];
+const POWERS_OF_TWO: [u64; 12] = [1, 2, 4, 8, 16, 32, 64, 128, 256, 512, 1024, 2048];
 
-fn is_power_of_two(n: u16) -> bool
+fn is_power_of_two(n: u64) -> bool
     ensures { λ r. ⌜ r ≡ isPower n ⌝ }
 {
     let of_a_byte = (POWERS_OF_TWO[0] == n)
@@ -395,30 +395,14 @@ fn is_power_of_two(n: u16) -> bool
     of_a_byte | above
 }
 
-// Refusal 8: a PRG count, or a CHR count that is not 0, is no power of two. Board mode only.
-fn no_powers(mode: Mode, prg: u16, chr: u16) -> bool
+// Refusal 8: a PRG count, or a CHR count that is not 0, is no power of two. Board mode only. Counts are as
+// wide as a word of a kept state, which every call judges by this.
+pub fn no_powers(mode: Mode, prg: u64, chr: u64) -> bool
     ensures { λ r. ⌜ r ≡ noPowers mode prg chr ⌝ }
 {
     match mode {
         Mode::House => false,
         Mode::Board => !is_power_of_two(prg) | ((chr != 0) & !is_power_of_two(chr)),
-    }
-}
-
-fn has_one_bit(n: u16) -> bool
-    ensures { λ r. ⌜ r ≡ hasOneBit n ⌝ }
-{
-    u16::count_ones(n) == 1
-}
-
-// The same of counts below 4,096, without the list, for a range that every call judges: a power of two
-// has one bit.
-fn not_one_bit(mode: Mode, prg: u16, chr: u16) -> bool
-    ensures { λ r. ⌜ r ≡ notOneBit mode prg chr ⌝ }
-{
-    match mode {
-        Mode::House => false,
-        Mode::Board => !has_one_bit(prg) | ((chr != 0) & !has_one_bit(chr)),
     }
 }
 
@@ -483,7 +467,7 @@ fn verdict_on(h: Header, ines: bool, len: usize, mode: Mode, rams: bool) -> Verd
     let prg = h.prg_in(mode);
     let chr = h.chr_in(mode);
     let short = len < (needed(prg, chr) as usize);
-    let counts = no_powers(mode, prg, chr);
+    let counts = no_powers(mode, prg as u64, chr as u64);
     first_of(
         !rams,
         (len < 16400) | !ines,

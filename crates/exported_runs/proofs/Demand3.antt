@@ -63,7 +63,7 @@ module _ {mode : ℕ} {image : List ℕ} where
       (x .calls) (x .write-bytes)
 
 an-image : {k : MapperType} {mode : ℕ} {image : List ℕ} → LentImage k mode image → demand.ImageOf k (modeOf mode) image
-an-image i = record { mapper = i .mapper; prg-is-a-byte = i .are-bytes 4; chr-is-a-byte = i .are-bytes 5 }
+an-image i = record { mapper = i .mapper; are-bytes = i .are-bytes }
 
 module _ {s : List ℕ} {b : Board} (h : Holds s b) where
   pub wrote-holds : (w : LentWrite) → IsAccepted s w → Holds (wrote s w) (boards.wrote b w)

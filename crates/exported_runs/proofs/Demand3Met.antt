@@ -1,6 +1,6 @@
 -- What meets demand 3's hypotheses in Rattle, and is made of bytes, meets those of the exported calls, so the two histories of each example in `laws` are
 -- examples here. Assumes nothing.
-use Prim.Native.Nat.{ℕ, zero, suc, _<_}
+use Prim.Native.Nat.{ℕ, _<_}
 use mathlib.Core.Path.{_≡_, refl, sym, ap, subst⁻¹, _∙_}
 use mathlib.Core.Bool.{Bool, true, not, _&&_}
 use mathlib.Core.List.{List, [], _∷_}
@@ -32,7 +32,6 @@ use Rattle.states.specs.Words.{wordsOf}
 use Rattle.exports.specs.Numbers.{loadNumber}
 use Rattle.exports.specs.Bytes.{stateLeft}
 use Rattle.exports.specs.Calls.{decision, loading}
-use Rattle.exports.specs.RoundTrip.{AreBytes}
 use Rattle.exports.proofs.AsBoards.{loads-as}
 use Rattle.exported_runs.specs.Holds.{Holds}
 use Rattle.exported_runs.specs.Runs.{stateAfter, IsByte, WriteBytes}
@@ -98,17 +97,6 @@ arms {s} {b} h w v a =
     reload : IsAccepted (wrote s (w .latch)) (w .reload)
     reload = taken latched (w .reload) (v .1) (a .reload)
 
--- lists that are computed to be of bytes
-allBytes : List ℕ → Bool
-allBytes [] = true
-allBytes (v ∷ s) = ltb v 0x100 && allBytes s
-
-are-bytes : (s : List ℕ) → allBytes s ≡ true → AreBytes s
-unfolding allBytes
-are-bytes [] h i = omega arith
-are-bytes (v ∷ s) h zero = ltb-true v 0x100 (and-left (ltb v 0x100) (allBytes s) h)
-are-bytes (v ∷ s) h (suc i) = are-bytes s (and-right (ltb v 0x100) (allBytes s) h) i
-
 written : Event → Bool
 written (Read a) = true
 written (Write a v) = ltb v 0x100
@@ -130,16 +118,15 @@ write-bytes [] h = tt
 write-bytes (call l e ∷ cs) h = (a-byte e (and-left (written e) (allWritten cs) h), write-bytes cs (and-right (written e) (allWritten cs) h))
 
 -- an image, and calls for two boards, by tests that compute
-lent-image : (k : MapperType) (mode : ℕ) (s : List ℕ) → ImageOf k (modeOf mode) s → allBytes s ≡ true → ltb (length s) 0x10000000000000000 ≡ true → LentImage k mode s
-lent-image k mode s i b n = record { mapper = i .mapper; are-bytes = are-bytes s b; of-a-length = ltb-true (length s) 0x10000000000000000 n }
+lent-image : (k : MapperType) (mode : ℕ) (s : List ℕ) → ImageOf k (modeOf mode) s → ltb (length s) 0x10000000000000000 ≡ true → LentImage k mode s
+lent-image k mode s i n = record { mapper = i .mapper; are-bytes = i .are-bytes; of-a-length = ltb-true (length s) 0x10000000000000000 n }
 
 same-bytes : (cs ds : List Call) → SameCalls cs ds → allWritten cs ≡ true → allWritten ds ≡ true → SameBytes cs ds
 same-bytes cs ds e f g = record { same-calls = e; first-bytes = write-bytes cs f; second-bytes = write-bytes ds g }
 
 -- MMC1: the histories of `SettlesMmc1Met`, as exported calls
 mmc1-image : (mode : ℕ) → LentImage Mmc1 mode images.mmc1
-unfolding allBytes
-mmc1-image mode = lent-image Mmc1 mode images.mmc1 (on-mmc1.met-image (modeOf mode)) refl refl
+mmc1-image mode = lent-image Mmc1 mode images.mmc1 (on-mmc1.met-image (modeOf mode)) refl
 
 module _ (mode : ℕ) (is-mode : mode < 2) where
   pub used-bytes : WriteBytes (on-mmc1.used (modeOf mode) .calls)
@@ -173,8 +160,7 @@ module _ (mode : ℕ) (is-mode : mode < 2) where
 
 -- MMC3: the histories of `SettlesMmc3Met`, as exported calls
 mmc3-image : (mode : ℕ) → LentImage Mmc3 mode images.mmc3
-unfolding allBytes
-mmc3-image mode = lent-image Mmc3 mode images.mmc3 (on-mmc3.met-image (modeOf mode)) refl refl
+mmc3-image mode = lent-image Mmc3 mode images.mmc3 (on-mmc3.met-image (modeOf mode)) refl
 
 module _ (mode : ℕ) (is-mode : mode < 2) where
   pub game-bytes : WriteBytes (on-mmc3.used (modeOf mode) .calls)

@@ -12,6 +12,7 @@ use Rattle.rules.proofs.Bools.{and-left}
 use Rattle.common.specs.Common.{modeOf}
 use Rattle.common.specs.declared.Mode.{Mode}
 use Rattle.common.specs.declared.Refusal.the-variants.{RamNot8K, StateOutOfRange}
+use Rattle.memory.specs.Memory.{AreBytes}
 use Rattle.cartridge.specs.Header.{headerOf}
 use Rattle.cartridge.specs.Load.{verdict, cartridgeOf, loadedAs, ramsFit}
 use Rattle.cartridge.specs.declared.Cartridge.{Cartridge}
@@ -28,7 +29,7 @@ use Rattle.states.specs.Words.{wordsOf}
 use Rattle.exports.specs.Numbers.{refused, readNumber, loadNumber}
 use Rattle.exports.specs.Bytes.{bytesOf, isState, stateLeft}
 use Rattle.exports.specs.Calls.{readBytes, WriteOwes, ClockOwes, decision, LoadOwes, DigitsOwes}
-use Rattle.exports.specs.RoundTrip.{AreBytes, ShowsAs}
+use Rattle.exports.specs.RoundTrip.{ShowsAs}
 use Rattle.exports.proofs.RoundTrip.{is-a-state}
 use Rattle.exports.proofs.AsBoards.{reads-as, writes-as, clocks-as, shows-as}
 use Rattle.laws.proofs.Ranges.{load-in-range, next-in-range}
@@ -115,6 +116,6 @@ after-load image mode s prg chr r s′ prg′ chr′ b l o z =
     record {
       bytes = o .state ∙ ap₂ (λ (n : ℕ) (x : Verdict). stateLeft s n (wordsOf (loadedBoard (loadedAs x c) .board))) z e
           ∙ ap (λ (n : ℕ). cond (eqb n 40) (bytesOf (wordsOf (startOf c))) s) (f .room);
-      in-range = load-in-range image (modeOf mode) (length prg) (length chr) (b 4) (b 5) (f .found);
+      in-range = load-in-range image (modeOf mode) (length prg) (length chr) b (f .found);
       of-its-types = start-typed c (length-of (headerOf image) (modeOf mode) (length image) l);
     }

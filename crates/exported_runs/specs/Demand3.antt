@@ -6,6 +6,7 @@ use mathlib.Core.List.{List, _∷_}
 use lib.Dec.{leb}
 use lib.ListN.{length, take}
 use Rattle.common.specs.Common.{isSigned, modeOf}
+use Rattle.memory.specs.Memory.{AreBytes}
 use Rattle.cartridge.specs.Header.{headerOf}
 use Rattle.cartridge.specs.Nes2.{mapperIn}
 use Rattle.cartridge.specs.Mappers.{mapperType}
@@ -23,7 +24,6 @@ use Rattle.laws.specs.SettlesMmc1.{serialWrites, LoadsAt, Settled}
 use Rattle.laws.specs.SettlesMmc3.{Arming}
 use Rattle.exports.specs.Bytes.{boardIn}
 use Rattle.exports.specs.Calls.{LoadOwes}
-use Rattle.exports.specs.RoundTrip.{AreBytes}
 use Rattle.exported_runs.specs.Runs.{number, nextState, stateAfter, numbers, played, ended, clockNumbers, WriteBytes}
 
 -- a lent image that has this mapper in a mode: bytes, of a length that a usize holds

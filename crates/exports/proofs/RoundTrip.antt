@@ -1,7 +1,7 @@
 -- The round trip of a board through its forty bytes, and of the bytes of a state through their board. Assumes nothing.
-use Prim.Native.Nat.{ℕ, _+_, _<_}
+use Prim.Native.Nat.{ℕ, _+_}
 use mathlib.Core.Path.{_≡_, refl, sym, ap, _∙_}
-use mathlib.Core.Bool.{Bool, true, false, false≢true, cond, _&&_}
+use mathlib.Core.Bool.{Bool, true, false, false≢true, cond}
 use mathlib.Core.List.{List, [], _∷_, _++_}
 use native.Mathlib.Omega.{arith}
 use borrow.Author.Tests.{eqb-true, eq-eqb, ne-eqb}
@@ -10,9 +10,9 @@ use lib.ListN.{length}
 use Rattle.rules.specs.Rows.{bytes}
 use Rattle.rules.specs.Flat.{flatDigits}
 use Rattle.rules.proofs.Flat.{flat-there, flat-back}
-use Rattle.rules.proofs.Bools.{and-left, and-right, and-both}
+use Rattle.rules.proofs.Bools.{and-left}
 use Rattle.common.specs.declared.Refusal.the-variants.{StateOutOfRange}
-use Rattle.memory.specs.Memory.{byte}
+use Rattle.memory.specs.Memory.{byte, AreBytes}
 use Rattle.cartridge.specs.Load.{badPrg, couldLoad}
 use Rattle.boards.specs.Range.{inRange}
 use Rattle.boards.specs.declared.Board.{Board}
@@ -24,7 +24,6 @@ use Rattle.states.proofs.RoundTrip as states
 use Rattle.exports.specs.Bytes.{wordAt, fiveWords, wordsIn, bytesOf, boardIn, isState, encoded}
 use Rattle.exports.specs.Calls.{isShown, DigitsOwes}
 use Rattle.exports.specs.Numbers.{refused}
-use Rattle.exports.specs.RoundTrip.{AreBytes}
 use Rattle.exports.proofs.Put.{all-entries}
 
 -- the words of what is not forty bytes

@@ -1,8 +1,7 @@
 -- The exported calls beside the calls of the board that the bytes hold.
-use Prim.Native.Nat.{ℕ, _<_}
+use Prim.Native.Nat.{ℕ}
 use mathlib.Core.Path.{_≡_}
 use mathlib.Core.List.{List}
-use Rattle.memory.specs.Memory.{byte}
 use Rattle.boards.specs.declared.Board.{Board}
 use Rattle.boards.specs.declared.Written.{Written}
 use Rattle.boards.specs.declared.Clocked.{Clocked}
@@ -11,10 +10,6 @@ use Rattle.states.specs.Kept.{boardDigits}
 use Rattle.states.specs.Words.{wordsOf}
 use Rattle.exports.specs.Numbers.{writeNumber, clockNumber, loadNumber}
 use Rattle.exports.specs.Bytes.{encoded, stateLeft}
-
--- every entry is a byte
-abbrev pub AreBytes : List ℕ → Type 0
-AreBytes s = (i : ℕ) → byte s i < 0x100
 
 -- a write as the board's: the number of its answer, the bytes of its next board, its RAMs
 pub record WritesAs (w : Written) (prg chr : List ℕ) (r : ℕ) (s′ prg′ chr′ : List ℕ) : Type 0 where

@@ -6,7 +6,7 @@ use mathlib.Core.Bool.{Bool, true, false, false≢true, cond, not, _||_}
 use mathlib.Core.List.{List, [], _∷_}
 use native.Mathlib.Omega.{arith}
 use lib.Dec.{ltb}
-use borrow.Author.Tests.{ltb-false, le-ltb, ne-eqb}
+use borrow.Author.Tests.{ltb-false, le-ltb}
 use lib.ListN.{length, set, length-set}
 use lib.Seq.{getD-set-other}
 use Rattle.common.specs.declared.Mode.{Mode}
@@ -15,7 +15,7 @@ use Rattle.memory.specs.Memory.{byte}
 use Rattle.cartridge.specs.Refusals.{Row, given}
 use Rattle.cartridge.specs.Header.{isInes, headerOf, mapperOf, mirroringOf, isNes2, isSpecial}
 use Rattle.cartridge.specs.Nes2.{isNes2In, extended, mapperIn, prgIn, chrIn, hasSubmapper, hasExponent, nes2NotTaken, hasPrgRam}
-use Rattle.cartridge.specs.Load.{isPower, badPrg, needed, noPowers, ramsFit, verdict, cartridgeOf, prgRamFits, couldLoad}
+use Rattle.cartridge.specs.Load.{badPrg, needed, noPowers, ramsFit, verdict, cartridgeOf, prgRamFits, couldLoad}
 use Rattle.cartridge.specs.Load as cartridge-load
 use Rattle.cartridge.specs.declared.Cartridge.{Cartridge}
 use Rattle.cartridge.specs.declared.Header.{Header}
@@ -25,7 +25,7 @@ use Rattle.places.specs.Windows.{prgRamOf}
 use Rattle.places.specs.Windows.Window.{PrgRam, Empty}
 use Rattle.boards.specs.Numbers.{refusedBy, loadNumber}
 use Rattle.boards.specs.Start.{load}
-use Rattle.laws.specs.AsBefore.{lastThree, powersTo128, inesRefusals, AsBefore}
+use Rattle.laws.specs.AsBefore.{lastThree, inesRefusals, AsBefore}
 use Rattle.laws.specs.Numbers.{firstNumber, answerOf}
 use Rattle.laws.proofs.Numbers.{a-load-answers-the-first-number}
 
@@ -49,17 +49,6 @@ every-house-load-is-as-before s prg chr = every-other-load-is-as-before s House 
 pub every-unmarked-load-is-as-before : (s : List ℕ) (prg chr : ℕ) → isNes2 (headerOf s) ≡ false → AsBefore s OnBoard prg chr
 unfolding isNes2In
 every-unmarked-load-is-as-before s prg chr e = every-other-load-is-as-before s OnBoard prg chr e
-
--- the list that 8 consults has document 01's eight below 256
-pub the-list-to-128 : (n : ℕ) → n < 256 → isPower n ≡ powersTo128 n
-unfolding isPower
-the-list-to-128 n l =
-    rw (ne-eqb 256 n (λ e. omega (arith, l, e)), ne-eqb 512 n (λ e. omega (arith, l, e)), ne-eqb 1024 n (λ e. omega (arith, l, e)), ne-eqb 2048 n (λ e. omega (arith, l, e)))
-    (or-false (powersTo128 n))
-  where
-    or-false : (x : Bool) → (x || false) ≡ x
-    or-false true = refl
-    or-false false = refl
 
 -- and a board that is not read as NES 2.0 has its PRG RAM where it had it
 pub every-other-board-has-its-ram : (c : Cartridge) → couldLoad c ≡ true → isNes2In (c .mode) (c .nes2) ≡ false → prgRamOf c ≡ PrgRam

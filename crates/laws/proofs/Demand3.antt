@@ -24,7 +24,7 @@ use Rattle.laws.proofs.SettlesMmc1.{mmc1-settles}
 use Rattle.laws.proofs.SettlesMmc3.{mmc3-settles}
 
 one-image : {mode : Mode} {s : List ℕ} {k : MapperType} → ImageOf k mode s → (x y : History mode s) → OneImage k (reached x) (reached y)
-one-image {mode} {s} {k} i x y = any-two-histories mode s (i .prg-is-a-byte) (i .chr-is-a-byte) k (i .mapper) x y
+one-image {mode} {s} {k} i x y = any-two-histories mode s (i .are-bytes) k (i .mapper) x y
 
 -- MMC1: "two boards of one image and mode", whatever their histories, that accept a bit 7 write and then get the same calls
 pub mmc1-histories-settle : {mode : Mode} {s : List ℕ} (x y : History mode s) (w u : LentWrite) (cs ds : List Call) → BothCleared x y w u cs ds

@@ -1,13 +1,13 @@
 -- Any two histories of one image in one mode leave two boards of one image: a load starts the board of its cartridge, and no call changes what was loaded.
 -- Assumes nothing.
-use Prim.Native.Nat.{ℕ, _<_}
+use Prim.Native.Nat.{ℕ}
 use mathlib.Core.Path.{_≡_, refl, sym, ap, _∙_}
 use mathlib.Core.Bool.{true}
 use mathlib.Core.List.{List}
 use native.Mathlib.Omega.{arith}
 use lib.ListN.{length}
 use Rattle.common.specs.declared.Mode.{Mode}
-use Rattle.memory.specs.Memory.{byte}
+use Rattle.memory.specs.Memory.{AreBytes}
 use Rattle.cartridge.specs.Header.{headerOf}
 use Rattle.cartridge.specs.Nes2.{mapperIn}
 use Rattle.cartridge.specs.Load.{verdict, cartridgeOf, loadedAs}
@@ -37,7 +37,7 @@ module _ {mode : Mode} {s : List ℕ} where
   pub one-start : (x y : History mode s) → loadWith mode s (x .prg) (x .chr) .board ≡ loadWith mode s (y .prg) (y .chr) .board
   one-start x y = start-of x ∙ sym (start-of y)
 
-module _ (mode : Mode) (s : List ℕ) (prg-byte : byte s 4 < 256) (chr-byte : byte s 5 < 256) where
+module _ (mode : Mode) (s : List ℕ) (bytes : AreBytes s) where
   cart-of : (h : History mode s) → reached h .cart ≡ cartridgeOf (headerOf s) mode (length s)
   unfolding startOf
   cart-of h =
@@ -47,13 +47,13 @@ module _ (mode : Mode) (s : List ℕ) (prg-byte : byte s 4 < 256) (chr-byte : by
   in-range : (h : History mode s) → inRange (reached h) ≡ true
   in-range h =
       run-in-range (loadWith mode s (h .prg) (h .chr) .board) (h .calls)
-      (loaded-in-range s mode (length (h .prg)) (length (h .chr)) prg-byte chr-byte (h .accepted))
+      (loaded-in-range s mode (length (h .prg)) (length (h .chr)) bytes (h .accepted))
 
   mapper-of : (h : History mode s) → reached h .cart .mapper ≡ mapperType (mapperIn mode (headerOf s))
   unfolding cartridgeOf
   mapper-of h = ap (λ (c : Cartridge). c .mapper) (cart-of h)
 
-  -- the image's bytes 4 and 5 are bytes, and its mapper is k
+  -- the image is of bytes, and its mapper is k
   pub any-two-histories : (k : MapperType) → mapperType (mapperIn mode (headerOf s)) ≡ k → (x y : History mode s) → OneImage k (reached x) (reached y)
   any-two-histories k e x y =
       record { cart = cart-of x ∙ sym (cart-of y); mapper = mapper-of x ∙ e; first = in-range x; second = in-range y }

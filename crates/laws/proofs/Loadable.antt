@@ -1,20 +1,20 @@
 -- A cartridge in range is left by the load of an image with its fields: no refusal is due, and its header's bytes lead back to each field. So a cartridge is in
 -- range exactly when some image of bytes leaves it. Assumes nothing.
-use Prim.Native.Nat.{ℕ, zero, suc, _+_, _-_, _*_, _/_, _%_, _≤_, _<_}
+use Prim.Native.Nat.{ℕ, _+_, _-_, _*_, _/_, _%_, _≤_, _<_}
 use mathlib.Core.Path.{_≡_, refl, sym, ap, ap₂, _∙_, subst}
 use mathlib.Core.Logic.{_↔_}
 use mathlib.Core.Bool.{Bool, true, false, false≢true, cond, not, _&&_, _||_}
-use mathlib.Core.List.{List, [], _∷_}
+use mathlib.Core.List.{List}
 use native.Mathlib.Omega.{arith}
 use lib.Dec.{ltb, eqb}
-use lib.ListN.{length, length-replicate, replicate}
+use lib.ListN.{length, length-replicate}
 use borrow.Author.Tests.{eqb-false, le-ltb, ne-eqb}
 use Rattle.common.specs.Answers.{isHeaders, among}
 use Rattle.common.specs.declared.Mode.{Mode}
 use Rattle.common.specs.declared.Mode.the-variants.{House, Board as OnBoard}
 use Rattle.common.specs.declared.Mirroring.{Mirroring}
 use Rattle.common.specs.declared.Mirroring.the-variants.{Horizontal, Vertical, SingleScreenUpper, SingleScreenLower}
-use Rattle.memory.specs.Memory.{byte}
+use Rattle.memory.proofs.Bytes.{Bytes, at-each-place, zeros}
 use Rattle.cartridge.specs.Header.{isInes, headerOf, mirroringOf, isSpecial}
 use Rattle.cartridge.specs.Nes2.{isNes2In, extended, mapperIn, prgIn, chrIn, hasSubmapper, hasExponent, isShifts, saysOtherwise, nes2NotTaken, hasPrgRam}
 use Rattle.cartridge.specs.Load.{badPrg, noPowers, needed, hasChrRam, countsEnd, prgRamFits, couldLoad, ramsFit, verdict, cartridgeOf, loadedAs}
@@ -27,7 +27,7 @@ use Rattle.cartridge.specs.declared.Loaded.the-variants.{Accepted}
 use Rattle.cartridge.specs.declared.Verdict.{Verdict}
 use Rattle.cartridge.specs.declared.Verdict.the-variants.{Take, Refuse}
 use Rattle.cartridge.proofs.Mappers.{by-number}
-use Rattle.cartridge.proofs.Range.{Fields, fields, counts-small}
+use Rattle.cartridge.proofs.Range.{Fields, fields, board-counts-small}
 use Rattle.cartridge.specs.Steps.{firstOf}
 use Rattle.laws.proofs.Ranges.{could-load}
 use Rattle.laws.specs.Loadable.{byte6, byte7, byte9, shifts, imageFor, Leaves}
@@ -137,7 +137,7 @@ module _ (c : Cartridge) (f : Fields c) where
         subst (λ (m : Bool). c .chr < countsEnd OnBoard m) g (subst (λ (m : Mode). c .chr < countsEnd m (c .nes2)) e (f .chr-small)),
       )
       go OnBoard true e g =
-          let s = counts-small (c .prg) (c .chr) (subst (λ (m : Mode). noPowers m (c .prg) (c .chr) ≡ false) e (f .powers)) in
+          let s = board-counts-small c f e in
           rw (e, g) (omega (arith, s .0), omega (arith, s .1))
 
   -- the numbers that the header says
@@ -224,27 +224,11 @@ module _ (c : Cartridge) (f : Fields c) where
         length = its-length i;
       }
 
--- what a list of bytes has at any place is a byte
-Bytes : List ℕ → Type 0
-Bytes [] = Unit {0}
-Bytes (x ∷ s) = (x < 256) × Bytes s
-
-byte-at : (s : List ℕ) → Bytes s → (i : ℕ) → byte s i < 256
-unfolding Bytes
-byte-at [] h i = omega arith
-byte-at (x ∷ s) h zero = h .0
-byte-at (x ∷ s) h (suc i) = byte-at s (h .1) i
-
-zeros : (n : ℕ) → Bytes (replicate n 0)
-unfolding Bytes
-zeros zero = tt
-zeros (suc n) = (omega arith, zeros n)
-
 nine-small : (t : Bool) (p c : ℕ) → p < cond t 2049 256 → c < cond t 2049 256 → p / 256 + c / 256 * 16 < 256
 nine-small true p c l m = omega (arith, l, m)
 nine-small false p c l m = omega (arith, l, m)
 
--- such are the bytes of its image
+-- the bytes of its image
 its-bytes : (c : Cartridge) → Fields c → Bytes (imageFor c)
 unfolding Bytes
 its-bytes c f =
@@ -282,7 +266,7 @@ pub every-cartridge-in-range-is-left : (c : Cartridge) → couldLoad c ≡ true 
 unfolding loadedAs
 every-cartridge-in-range-is-left c h =
     let f = fields c h in
-    record { are-bytes = byte-at (imageFor c) (its-bytes c f); accepted = ap₂ loadedAs (taken c f) (back c f) }
+    record { are-bytes = at-each-place (imageFor c) (its-bytes c f); accepted = ap₂ loadedAs (taken c f) (back c f) }
 
 left : (v : Verdict) (x c : Cartridge) → loadedAs v x ≡ Accepted c → (v ≡ Take) × (x ≡ c)
 unfolding loadedAs
@@ -295,5 +279,5 @@ in-range-exactly-if-some-load-leaves-it c = (
   λ h. (imageFor c, every-cartridge-in-range-is-left c h),
   λ p. let s = p .0 in let l = p .1 in
       let e = left (verdict s (c .mode) 8192 8192) (cartridgeOf (headerOf s) (c .mode) (length s)) c (l .accepted) in
-      subst (λ (x : Cartridge). couldLoad x ≡ true) (e .1) (could-load s (c .mode) 8192 8192 (l .are-bytes 4) (l .are-bytes 5) (e .0)),
+      subst (λ (x : Cartridge). couldLoad x ≡ true) (e .1) (could-load s (c .mode) 8192 8192 (l .are-bytes) (e .0)),
 )

@@ -1,6 +1,6 @@
 -- Ranges are kept: the board that a load gives is in range, and so is the board after any call, so no run of calls is ever refused by 10 for its state.
 -- Assumes nothing.
-use Prim.Native.Nat.{ℕ, zero, suc, _%_, _<_, _≤_}
+use Prim.Native.Nat.{ℕ, zero, suc, _+_, _*_, _/_, _%_, _<_, _≤_}
 use mathlib.Core.Path.{_≡_, refl, sym, ap, _∙_, subst, subst⁻¹}
 use mathlib.Core.Bool.{Bool, true, false, false≢true, cond, not, _||_}
 use mathlib.Core.List.{List, [], _∷_}
@@ -16,7 +16,7 @@ use Rattle.common.specs.declared.Mode.the-variants.{House, Board as OnBoard}
 use Rattle.common.specs.declared.Mirroring.{Mirroring}
 use Rattle.common.specs.declared.Mirrors.{Mirrors}
 use Rattle.common.specs.declared.Mirrors.the-variants.{AsBefore, As}
-use Rattle.memory.specs.Memory.{byte}
+use Rattle.memory.specs.Memory.{AreBytes}
 use Rattle.cartridge.specs.Header.{headerOf, isInes, isNes2, isSpecial, mirroringOf}
 use Rattle.cartridge.specs.Nes2.{isNes2In, extended, mapperIn, prgIn, chrIn, nes2NotTaken, hasPrgRam}
 use Rattle.cartridge.specs.Load.{badPrg, noPowers, needed, countsEnd, prgRamFits, couldLoad, ramsFit, verdict, cartridgeOf, loadedAs}
@@ -28,8 +28,7 @@ use Rattle.cartridge.specs.declared.MapperType.{MapperType}
 use Rattle.cartridge.specs.declared.MapperType.the-variants.{Nrom, Mmc1, Uxrom, Cnrom, Mmc3}
 use Rattle.cartridge.specs.declared.Verdict.{Verdict}
 use Rattle.cartridge.specs.declared.Verdict.the-variants.{Take, Refuse}
-use Rattle.cartridge.proofs.Nes2.{plain-prg, plain-chr}
-use Rattle.cartridge.proofs.Range.{fields, in-range as cart-in-range, counts-small}
+use Rattle.cartridge.proofs.Range.{fields, in-range as cart-in-range, board-counts-small}
 use Rattle.uxrom.specs.Uxrom as uxrom
 use Rattle.cnrom.specs.Cnrom as cnrom
 use Rattle.cnrom.specs.declared.Cnrom as cnrom-type
@@ -219,19 +218,15 @@ numbered (suc (suc (suc zero))) h = refl
 numbered (suc (suc (suc (suc zero)))) h = refl
 numbered (suc (suc (suc (suc (suc n))))) h = absurd (omega arith)
 
--- the counts of a header of bytes, where they are powers of two in board mode
-counts : (mode : Mode) (h : Header) → h .prg < 256 → h .chr < 256 → noPowers mode (prgIn mode h) (chrIn mode h) ≡ false
+-- the counts of a header of bytes: a byte each, or a byte with a nibble above it
+counts : (mode : Mode) (h : Header) → h .prg < 256 → h .chr < 256 → h .flags9 < 256
     → (prgIn mode h < countsEnd mode (isNes2 h)) × (chrIn mode h < countsEnd mode (isNes2 h))
-unfolding countsEnd isNes2In
-counts mode h p c e = go mode (isNes2 h) refl e
+unfolding countsEnd prgIn chrIn
+counts mode h p c n = go (extended mode h)
   where
-    plain : (m : Mode) → extended m h ≡ false → (prgIn m h < 256) × (chrIn m h < 256)
-    plain m f = (subst⁻¹ (λ (n : ℕ). n < 256) (plain-prg m h f) p, subst⁻¹ (λ (n : ℕ). n < 256) (plain-chr m h f) c)
-
-    go : (m : Mode) (t : Bool) → isNes2 h ≡ t → noPowers m (prgIn m h) (chrIn m h) ≡ false → (prgIn m h < countsEnd m t) × (chrIn m h < countsEnd m t)
-    go House t f q = plain House refl
-    go OnBoard false f q = plain OnBoard f
-    go OnBoard true f q = let s = counts-small (prgIn OnBoard h) (chrIn OnBoard h) q in (omega (arith, s .0), omega (arith, s .1))
+    go : (t : Bool) → (cond t (h .prg + h .flags9 % 16 * 256) (h .prg) < cond t 4096 256) × (cond t (h .chr + h .flags9 / 16 * 256) (h .chr) < cond t 4096 256)
+    go true = (omega (arith, p), omega (arith, c, n))
+    go false = (p, c)
 
 -- only an image that is read as NES 2.0 lacks PRG RAM
 noted : (mode : Mode) (h : Header) → (hasPrgRam mode h || extended mode h) ≡ true
@@ -244,12 +239,12 @@ noted mode h = go (extended mode h) (not (eqb (h .flags10) 0))
     go false x = refl
 
 -- what an accepted load keeps is as a load could leave it
-pub could-load : (s : List ℕ) (mode : Mode) (p c : ℕ) → byte s 4 < 256 → byte s 5 < 256 → verdict s mode p c ≡ Take → couldLoad (cartridgeOf (headerOf s) mode (length s)) ≡ true
+pub could-load : (s : List ℕ) (mode : Mode) (p c : ℕ) → AreBytes s → verdict s mode p c ≡ Take → couldLoad (cartridgeOf (headerOf s) mode (length s)) ≡ true
 unfolding verdict firstOf prgRamFits cartridgeOf headerOf mirroringOf
-could-load s mode p c h4 h5 e =
+could-load s mode p c b e =
     let h = headerOf s in
     let t = taken (not (ramsFit p c)) (ltb (length s) 16400 || not (isInes s)) (ltb 4 (mapperIn mode h)) (isSpecial h) (nes2NotTaken mode h) (badPrg (mapperIn mode h) (prgIn mode h)) (ltb (length s) (needed (prgIn mode h) (chrIn mode h))) (noPowers mode (prgIn mode h) (chrIn mode h)) e in
-    let n = counts mode h h4 h5 (t .3) in
+    let n = counts mode h (b 4) (b 5) (b 9) in
     cart-in-range (cartridgeOf h mode (length s))
     (record {
       prg-taken = subst⁻¹ (λ (n : ℕ). badPrg n (prgIn mode h) ≡ false) (numbered (mapperIn mode h) (ltb-false 4 (mapperIn mode h) (t .0))) (t .1);
@@ -288,9 +283,9 @@ unfolding startOf inRange mirroringFits
 start-in-range c h = join (join h (start-fits (c .mapper))) (start-screens (c .mode) (c .mapper) (c .mirroring) (fields c h .headers))
 
 -- the board that an accepted load gives, of any image of bytes
-pub load-in-range : (s : List ℕ) (mode : Mode) (p c : ℕ) → byte s 4 < 256 → byte s 5 < 256 → verdict s mode p c ≡ Take
+pub load-in-range : (s : List ℕ) (mode : Mode) (p c : ℕ) → AreBytes s → verdict s mode p c ≡ Take
     → inRange (startOf (cartridgeOf (headerOf s) mode (length s))) ≡ true
-load-in-range s mode p c h4 h5 e = start-in-range (cartridgeOf (headerOf s) mode (length s)) (could-load s mode p c h4 h5 e)
+load-in-range s mode p c b e = start-in-range (cartridgeOf (headerOf s) mode (length s)) (could-load s mode p c b e)
 
 -- no event changes what was loaded
 pub next-keeps-cart : (b : Board) (l : Lent) (e : Event) → next b l e .cart ≡ b .cart
@@ -314,13 +309,13 @@ unfolding loadedBoard loadedAs
 accepted Take c e = refl
 accepted (Refuse why) c e = absurd (let z : _≡_ {A = ℕ} 0 1 = cc in omega arith)
 
-pub loaded-in-range : (s : List ℕ) (mode : Mode) (p c : ℕ) → byte s 4 < 256 → byte s 5 < 256
+pub loaded-in-range : (s : List ℕ) (mode : Mode) (p c : ℕ) → AreBytes s
     → loadedBoard (loadedAs (verdict s mode p c) (cartridgeOf (headerOf s) mode (length s))) .answer ≡ Accepted
     → inRange (loadedBoard (loadedAs (verdict s mode p c) (cartridgeOf (headerOf s) mode (length s))) .board) ≡ true
 unfolding loadedBoard loadedAs
-loaded-in-range s mode p c h4 h5 e =
+loaded-in-range s mode p c b e =
     let t = accepted (verdict s mode p c) (cartridgeOf (headerOf s) mode (length s)) e in
-    subst⁻¹ (λ (v : Verdict). inRange (loadedBoard (loadedAs v (cartridgeOf (headerOf s) mode (length s))) .board) ≡ true) t (load-in-range s mode p c h4 h5 t)
+    subst⁻¹ (λ (v : Verdict). inRange (loadedBoard (loadedAs v (cartridgeOf (headerOf s) mode (length s))) .board) ≡ true) t (load-in-range s mode p c b t)
 
 -- "Greatest needed length: 6,266,896"
 pub greatest-length : needed 255 255 ≡ 6266896
@@ -334,11 +329,7 @@ no-counts-need-more prg chr p c = omega (arith, p, c)
 pub greatest-nes2-length : needed 2048 2048 ≡ 50331664
 greatest-nes2-length = refl
 
--- no counts that board mode takes need more
-pub no-nes2-counts-need-more : (prg chr : ℕ) → noPowers OnBoard prg chr ≡ false → needed prg chr ≤ 50331664
-no-nes2-counts-need-more prg chr e = let s = counts-small prg chr e in omega (arith, s .0, s .1)
-
--- nor does a cartridge in range, whose image has what it needs
+-- no cartridge in range needs more, and its image has what it needs
 pub no-cartridge-needs-more : (c : Cartridge) → couldLoad c ≡ true → Needs c
 unfolding countsEnd isNes2In
 no-cartridge-needs-more c h =
@@ -351,19 +342,19 @@ no-cartridge-needs-more c h =
 
     go : (m : Mode) → c .mode ≡ m → needed (c .prg) (c .chr) ≤ 50331664
     go House e = let n = small (ap (λ (m : Mode). isNes2In m (c .nes2)) e) in omega (arith, n)
-    go OnBoard e = no-nes2-counts-need-more (c .prg) (c .chr) (subst (λ (m : Mode). noPowers m (c .prg) (c .chr) ≡ false) e (fields c h .powers))
+    go OnBoard e = let s = board-counts-small c (fields c h) e in omega (arith, s .0, s .1)
 
 -- nor does a board in range
 pub no-board-needs-more : (b : Board) → inRange b ≡ true → Needs (b .cart)
 no-board-needs-more b h = no-cartridge-needs-more (b .cart) (three b h .0)
 
 -- so no accepted image of bytes, which has the data that its counts say within its length
-pub no-accepted-image-needs-more : (s : List ℕ) (mode : Mode) (p c : ℕ) → byte s 4 < 256 → byte s 5 < 256
+pub no-accepted-image-needs-more : (s : List ℕ) (mode : Mode) (p c : ℕ) → AreBytes s
     → loadedBoard (loadedAs (verdict s mode p c) (cartridgeOf (headerOf s) mode (length s))) .answer ≡ Accepted
     → Needs (cartridgeOf (headerOf s) mode (length s))
-no-accepted-image-needs-more s mode p c h4 h5 e =
+no-accepted-image-needs-more s mode p c b e =
     no-cartridge-needs-more (cartridgeOf (headerOf s) mode (length s))
-    (could-load s mode p c h4 h5 (accepted (verdict s mode p c) (cartridgeOf (headerOf s) mode (length s)) e))
+    (could-load s mode p c b (accepted (verdict s mode p c) (cartridgeOf (headerOf s) mode (length s)) e))
 
 -- and whatever numbers the header has: its counts, with their extension, say no more than is there
 pub the-data-is-there : (s : List ℕ) (mode : Mode) (p c : ℕ) → verdict s mode p c ≡ Take → needed (prgIn mode (headerOf s)) (chrIn mode (headerOf s)) ≤ length s

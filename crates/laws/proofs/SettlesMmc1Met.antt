@@ -9,6 +9,7 @@ use Rattle.common.specs.declared.Mode.{Mode}
 use Rattle.common.specs.declared.Mode.the-variants.{House, Board as OnBoard}
 use Rattle.common.specs.declared.Mirroring.the-variants.{SingleScreenUpper}
 use Rattle.common.specs.declared.Refusal.the-variants.{BankPastData}
+use Rattle.memory.proofs.Bytes.{allBytes, are-bytes}
 use Rattle.cartridge.specs.declared.MapperType.the-variants.{Mmc1}
 use Rattle.places.specs.declared.ReadAnswer.the-variants.{Byte, Refused}
 use Rattle.mmc1.specs.declared.Move.the-variants.{Fill}
@@ -55,9 +56,9 @@ met-loads House = refl
 met-loads OnBoard = refl
 
 pub met-image : (mode : Mode) → ImageOf Mmc1 mode mmc1-image
-unfolding opened
-met-image House = record { mapper = refl; prg-is-a-byte = omega arith; chr-is-a-byte = omega arith }
-met-image OnBoard = record { mapper = refl; prg-is-a-byte = omega arith; chr-is-a-byte = omega arith }
+unfolding opened allBytes
+met-image House = record { mapper = refl; are-bytes = are-bytes mmc1-image refl }
+met-image OnBoard = record { mapper = refl; are-bytes = are-bytes mmc1-image refl }
 
 -- a history without calls, and one that is in the midst of a game: other registers, other screens on the real board, and three bits in the serial register
 abbrev pub history : (mode : Mode) → List Call → History mode mmc1-image

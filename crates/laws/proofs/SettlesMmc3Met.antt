@@ -3,10 +3,10 @@
 use mathlib.Core.Path.{_≡_, refl}
 use mathlib.Core.Bool.{true, false}
 use mathlib.Core.List.{List, [], _∷_, map}
-use native.Mathlib.Omega.{arith}
 use lib.ListN.{replicate}
 use Rattle.common.specs.declared.Mode.{Mode}
 use Rattle.common.specs.declared.Mode.the-variants.{House, Board as OnBoard}
+use Rattle.memory.proofs.Bytes.{allBytes, are-bytes}
 use Rattle.cartridge.specs.declared.MapperType.the-variants.{Mmc3}
 use Rattle.boards.specs.Runs as runs
 use Rattle.boards.specs.Runs.{Lent, Call, call, after}
@@ -36,9 +36,9 @@ met-loads House = refl
 met-loads OnBoard = refl
 
 pub met-image : (mode : Mode) → ImageOf Mmc3 mode mmc3-image
-unfolding opened
-met-image House = record { mapper = refl; prg-is-a-byte = omega arith; chr-is-a-byte = omega arith }
-met-image OnBoard = record { mapper = refl; prg-is-a-byte = omega arith; chr-is-a-byte = omega arith }
+unfolding opened allBytes
+met-image House = record { mapper = refl; are-bytes = are-bytes mmc3-image refl }
+met-image OnBoard = record { mapper = refl; are-bytes = are-bytes mmc3-image refl }
 
 abbrev pub history : (mode : Mode) → List Call → History mode mmc3-image
 history mode cs = record { prg = ram; chr = ram; accepted = met-loads mode; calls = cs }

@@ -1,9 +1,9 @@
 -- M-100 leaves every other load as it was: document 01's list and cartridge, which hold of each image that is not read as NES 2.0, so in house mode of all.
 use Prim.Native.Nat.{ℕ}
 use mathlib.Core.Path.{_≡_}
-use mathlib.Core.Bool.{Bool, true, not, _||_}
+use mathlib.Core.Bool.{true, not, _||_}
 use mathlib.Core.List.{List, [], _∷_}
-use lib.Dec.{ltb, eqb}
+use lib.Dec.{ltb}
 use lib.ListN.{length}
 use Rattle.common.specs.declared.Mode.{Mode}
 use Rattle.cartridge.specs.Refusals.{Row, given, first}
@@ -21,10 +21,6 @@ lastThree s mode =
     ∷ given 7 (ltb (length s) (needed (h .prg) (h .chr)))
     ∷ given 8 (noPowers mode (h .prg) (h .chr))
     ∷ []
-
--- "a list of the powers of two from 1 to 128", which 8 consulted
-abbrev pub powersTo128 : ℕ → Bool
-powersTo128 n = eqb 1 n || eqb 2 n || eqb 4 n || eqb 8 n || eqb 16 n || eqb 32 n || eqb 64 n || eqb 128 n
 
 -- "Order in load: 9, 3, 4, 5, 6, 7, 8"
 abbrev pub inesRefusals : List ℕ → Mode → ℕ → ℕ → List Row

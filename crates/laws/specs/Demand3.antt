@@ -1,9 +1,9 @@
 -- Demand 3 from the start: what it asks of two histories of one image in one mode, and of what the boards that they reach are given then.
-use Prim.Native.Nat.{ℕ, _<_}
+use Prim.Native.Nat.{ℕ}
 use mathlib.Core.Path.{_≡_}
 use mathlib.Core.List.{List}
 use Rattle.common.specs.declared.Mode.{Mode}
-use Rattle.memory.specs.Memory.{byte}
+use Rattle.memory.specs.Memory.{AreBytes}
 use Rattle.cartridge.specs.Header.{headerOf}
 use Rattle.cartridge.specs.Nes2.{mapperIn}
 use Rattle.cartridge.specs.Mappers.{mapperType}
@@ -14,11 +14,10 @@ use Rattle.laws.specs.Calls.{History, reached, LentWrite, SameCalls}
 use Rattle.laws.specs.SettlesMmc1.{Clears}
 use Rattle.laws.specs.SettlesMmc3.{Arming, Accepts}
 
--- an image that has this mapper in a mode, and whose bytes 4 and 5 are bytes
+-- an image of bytes that has this mapper in a mode
 pub record ImageOf (k : MapperType) (mode : Mode) (s : List ℕ) : Type 0 where
   pub mapper : mapperType (mapperIn mode (headerOf s)) ≡ k
-  pub prg-is-a-byte : byte s 4 < 256
-  pub chr-is-a-byte : byte s 5 < 256
+  pub are-bytes : AreBytes s
 
 -- MMC1: the boards that the histories x and y reach both accept "a write with bit 7 set to 8000-FFFF", "then get the same calls"
 pub record BothCleared {mode : Mode} {s : List ℕ} (x y : History mode s) (w u : LentWrite) (cs ds : List Call) : Type 0 where

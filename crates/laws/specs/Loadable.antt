@@ -1,11 +1,11 @@
 -- State ranges: "Mapper, counts, length and mirroring as a load could leave them": the image that leaves a cartridge, and how long an image has to be.
-use Prim.Native.Nat.{ℕ, _+_, _-_, _*_, _/_, _%_, _≤_, _<_}
+use Prim.Native.Nat.{ℕ, _+_, _-_, _*_, _/_, _%_, _≤_}
 use mathlib.Core.Path.{_≡_}
 use mathlib.Core.Bool.{Bool, false, cond}
 use mathlib.Core.List.{List, [], _∷_, _++_}
 use lib.ListN.{replicate}
 use Rattle.common.specs.Answers.{among}
-use Rattle.memory.specs.Memory.{byte}
+use Rattle.memory.specs.Memory.{AreBytes}
 use Rattle.cartridge.specs.Nes2.{isNes2In}
 use Rattle.cartridge.specs.Load.{needed, hasChrRam, load}
 use Rattle.cartridge.specs.Mappers.{mapperNumber}
@@ -40,7 +40,7 @@ imageFor c = headerFor c ++ replicate (c .length - 16) 0
 
 -- an image of bytes whose load in the cartridge's mode, with both RAMs lent whole, leaves the cartridge
 pub record Leaves (s : List ℕ) (c : Cartridge) : Type 0 where
-  pub are-bytes : (i : ℕ) → byte s i < 256
+  pub are-bytes : AreBytes s
   pub accepted : load s (c .mode) 8192 8192 ≡ Accepted c
 
 -- how long an image has to be for its counts: "Greatest needed length: 6,266,896", and with M-100's counts 50,331,664; and the image is as long

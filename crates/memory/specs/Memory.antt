@@ -1,5 +1,5 @@
 -- What stands in lent bytes.
-use Prim.Native.Nat.{ℕ}
+use Prim.Native.Nat.{ℕ, _<_}
 use mathlib.Core.Bool.{cond}
 use mathlib.Core.List.{List}
 use lib.Dec.{eqb}
@@ -8,6 +8,10 @@ use lib.ListN.{length, getD, take, drop}
 -- the byte at a place, 0 past the end
 abbrev pub byte : List ℕ → ℕ → ℕ
 byte s i = getD s i 0
+
+-- every entry is a byte
+abbrev pub AreBytes : List ℕ → Type 0
+AreBytes s = (i : ℕ) → byte s i < 0x100
 
 -- the data from a place on
 abbrev pub tail : List ℕ → ℕ → List ℕ

@@ -12,8 +12,7 @@ use Rattle.common.specs.Common.{KB8}
 use Rattle.common.specs.Answers.{refusalNumber}
 use Rattle.common.specs.declared.Refusal.{Refusal}
 use Rattle.cartridge.specs.Load.{couldLoad, ramsFit}
-use Rattle.cartridge.proofs.OneBit.{counts-end-small}
-use Rattle.cartridge.proofs.Range.{fields}
+use Rattle.cartridge.proofs.Range.{fields, counts-end-small}
 use Rattle.boards.specs.Registers.{fits}
 use Rattle.boards.specs.Range.{mirroringFits, inRange, isLoaded}
 use Rattle.boards.specs.declared.Board.{Board}

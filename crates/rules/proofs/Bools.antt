@@ -1,6 +1,12 @@
--- A conjunction of tests, taken apart; a choice by a test. Assumes nothing.
-use mathlib.Core.Path.{_≡_, refl}
+-- Tests that say the same; a conjunction of tests, taken apart; a choice by a test. Assumes nothing.
+use mathlib.Core.Path.{_≡_, refl, sym}
 use mathlib.Core.Bool.{Bool, true, false, false≢true, cond, _&&_}
+
+pub both-ways : (x y : Bool) → (x ≡ true → y ≡ true) → (y ≡ true → x ≡ true) → x ≡ y
+both-ways true true f g = refl
+both-ways true false f g = sym (f refl)
+both-ways false true f g = g refl
+both-ways false false f g = refl
 
 pub and-left : (x y : Bool) → (x && y) ≡ true → x ≡ true
 and-left true y e = refl

@@ -17,8 +17,7 @@ use Rattle.common.specs.declared.Mirroring.the-variants.{Horizontal, Vertical, 
 use Rattle.cartridge.specs.Load.{couldLoad}
 use Rattle.cartridge.specs.Mappers.{mapperNumber, isMapper, mapperType}
 use Rattle.cartridge.specs.declared.Cartridge.{Cartridge}
-use Rattle.cartridge.proofs.OneBit.{counts-end-small}
-use Rattle.cartridge.proofs.Range.{fields}
+use Rattle.cartridge.proofs.Range.{fields, counts-end-small}
 use Rattle.cartridge.specs.declared.MapperType.{MapperType}
 use Rattle.cartridge.specs.declared.MapperType.the-variants.{Nrom, Mmc1, Uxrom, Cnrom, Mmc3}
 use Rattle.cnrom.specs.Cnrom as cnrom

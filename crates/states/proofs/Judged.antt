@@ -2,7 +2,7 @@
 -- last. Assumes nothing.
 use Prim.Native.Nat.{ℕ, zero, suc, _<_}
 use mathlib.Core.Path.{_≡_, refl, sym, ap, subst⁻¹, _∙_}
-use mathlib.Core.Bool.{Bool, true, false, cond, not, _&&_, _||_, and-assoc, and-comm, and-true}
+use mathlib.Core.Bool.{Bool, true, false, cond, not, _&&_, _||_, and-assoc, and-comm, and-true, or-true}
 use mathlib.Core.List.{List, [], _∷_}
 use mathlib.Core.Logic.{_↔_}
 use native.Mathlib.Omega.{arith}
@@ -11,7 +11,7 @@ use lib.Dec.{eqb, ltb, leb}
 use mir.Val.{boolByte}
 use Rattle.rules.specs.Rows.{bytes, digit, Fits}
 use Rattle.rules.specs.Flat.{flatDigits, flatWord}
-use Rattle.rules.proofs.Bools.{and-left, and-right, split-3, split-4}
+use Rattle.rules.proofs.Bools.{both-ways, and-left, and-right, split-3, split-4}
 use Rattle.rules.proofs.Rows.{mark-small}
 use Rattle.rules.proofs.Flat.{flat-there, flat-back, flat-small}
 use Rattle.common.specs.Common.{modeNumber, modeOf}
@@ -20,12 +20,10 @@ use Rattle.common.specs.Answers as mirrorings
 use Rattle.common.specs.declared.Mode.{Mode}
 use Rattle.common.specs.declared.Mode.the-variants.{House, Board as OnBoard}
 use Rattle.cartridge.specs.Nes2.{isNes2In}
-use Rattle.cartridge.specs.Load.{badPrg, needed, countsEnd, prgRamFits, couldLoad}
+use Rattle.cartridge.specs.Load.{badPrg, needed, noPowers, countsEnd, prgRamFits, couldLoad}
 use Rattle.cartridge.specs.Mappers.{isMapper, mapperNumber}
-use Rattle.cartridge.specs.Steps.{notOneBit}
 use Rattle.cartridge.specs.declared.MapperType.{MapperType}
 use Rattle.cartridge.specs.declared.MapperType.the-variants.{Nrom, Mmc1, Uxrom, Cnrom, Mmc3}
-use Rattle.cartridge.proofs.OneBit.{by-bits}
 use Rattle.uxrom.specs.Uxrom as uxrom
 use Rattle.uxrom.specs.declared.Uxrom as uxrom-type
 use Rattle.cnrom.specs.Cnrom as cnrom
@@ -48,12 +46,6 @@ use Rattle.states.specs.declared.Words.{Words}
 use Rattle.states.proofs.Digits.{mapper-small, note-small}
 use Rattle.states.proofs.Starts.{uxrom-start, cnrom-start, mmc1-unused, mmc3-start}
 
-both-ways : (x y : Bool) → (x ≡ true → y ≡ true) → (y ≡ true → x ≡ true) → x ≡ y
-both-ways true true f g = refl
-both-ways true false f g = sym (f refl)
-both-ways false true f g = g refl
-both-ways false false f g = refl
-
 turn : (m n : ℕ) → eqb m n ≡ eqb n m
 turn m n = both-ways (eqb m n) (eqb n m) (λ h. eq-eqb n m (sym (eqb-true m n h))) (λ h. eq-eqb m n (sym (eqb-true n m h)))
 
@@ -75,15 +67,11 @@ noted : (p x y : Bool) → (p && x && y) ≡ (x && y && (p || false))
 noted true x y = sym (and-true (x && y))
 noted false x y = and-comm false (x && y)
 
-or-true : (p : Bool) → (p || true) ≡ true
-or-true true = refl
-or-true false = refl
-
 -- by the mode; i where the word is as iNES says
 in-mode : (z : Bool) (k : MapperType) (s h mark i : Bool) (prg chr : ℕ)
-    → cond z (i && s) (not (notOneBit OnBoard prg chr) && (mark || i) && turnedFit k s h)
-    ≡ (screensBy (cond z House OnBoard) k s h && not (notOneBit (cond z House OnBoard) prg chr) && (isNes2In (cond z House OnBoard) mark || i))
-unfolding screensBy notOneBit isNes2In
+    → cond z (i && s) (not (noPowers OnBoard prg chr) && (mark || i) && turnedFit k s h)
+    ≡ (screensBy (cond z House OnBoard) k s h && not (noPowers (cond z House OnBoard) prg chr) && (isNes2In (cond z House OnBoard) mark || i))
+unfolding screensBy noPowers isNes2In
 in-mode true k s h mark i prg chr = simp (order, and-true)
 in-mode false k s h mark i prg chr = simp order
 
@@ -173,25 +161,24 @@ module _ (c length : ℕ) where
   mark = eqb (digit d 3) 1
 
   mode-of : modeIsKept k c
-      ≡ (screensIn (cartOf d length) (screensOf d) && not (notOneBit mode (digit d 7) (digit d 8))
+      ≡ (screensIn (cartOf d length) (screensOf d) && not (noPowers mode (digit d 7) (digit d 8))
       && (ltb (digit d 7) (countsEnd mode mark) && ltb (digit d 8) (countsEnd mode mark) && (eqb (digit d 6) 1 || isNes2In mode mark)))
   unfolding modeIsKept modeOf isInesWord
   mode-of =
       in-mode (eqb (digit d 2) 0) k (eqb (digit d 5) (digit d 4)) (ltb (digit d 5) 2) mark (isInesWord c) (digit d 7) (digit d 8)
-      ∙ (λ i. screensBy mode k (one-screen (digit d 5) (digit d 4) (omega arith) (omega arith) i) (is-headers (digit d 5) (omega arith) i) && not (notOneBit mode (digit d 7) (digit d 8)) && as-ines mode mark (eqb (digit d 6) 1) (digit d 7) (digit d 8) (omega arith) (omega arith) i)
-      ∙ (λ i. by-two-tests mode k (mirroringOf (digit d 4)) (mirroringOf (digit d 5)) i && not (notOneBit mode (digit d 7) (digit d 8)) && (ltb (digit d 7) (countsEnd mode mark) && ltb (digit d 8) (countsEnd mode mark) && (eqb (digit d 6) 1 || isNes2In mode mark)))
+      ∙ (λ i. screensBy mode k (one-screen (digit d 5) (digit d 4) (omega arith) (omega arith) i) (is-headers (digit d 5) (omega arith) i) && not (noPowers mode (digit d 7) (digit d 8)) && as-ines mode mark (eqb (digit d 6) 1) (digit d 7) (digit d 8) (omega arith) (omega arith) i)
+      ∙ (λ i. by-two-tests mode k (mirroringOf (digit d 4)) (mirroringOf (digit d 5)) i && not (noPowers mode (digit d 7) (digit d 8)) && (ltb (digit d 7) (countsEnd mode mark) && ltb (digit d 8) (countsEnd mode mark) && (eqb (digit d 6) 1 || isNes2In mode mark)))
 
   cart-of : (cartIsKept k c length && modeIsKept k c)
       ≡ (couldLoad (cartOf d length) && screensIn (cartOf d length) (screensOf d) && eqb (cartWord (cartOf d length) (screensOf d)) c)
-  unfolding cartIsKept prgRamFits
+  unfolding cartIsKept couldLoad prgRamFits
   cart-of =
       let p = not (badPrg (mapperNumber k) (digit d 7)) in
       let n = leb (needed (digit d 7) (digit d 8)) length in
       let x = screensIn (cartOf d length) (screensOf d) in
       let w = eqb (cartWord (cartOf d length) (screensOf d)) c in
       (λ i. (whole i && is-headers (digit d 4) (omega arith) i && p && n) && mode-of i)
-      ∙ join w (isHeaders (mirroringOf (digit d 4))) p n x (not (notOneBit mode (digit d 7) (digit d 8))) (ltb (digit d 7) (countsEnd mode mark)) (ltb (digit d 8) (countsEnd mode mark)) (eqb (digit d 6) 1 || isNes2In mode mark)
-      ∙ ap (λ (y : Bool). y && x && w) (by-bits (cartOf d length))
+      ∙ join w (isHeaders (mirroringOf (digit d 4))) p n x (not (noPowers mode (digit d 7) (digit d 8))) (ltb (digit d 7) (countsEnd mode mark)) (ltb (digit d 8) (countsEnd mode mark)) (eqb (digit d 6) 1 || isNes2In mode mark)
 
 -- what a word of banks holds of each board
 abbrev fitsBanks : MapperType → List ℕ → Bool

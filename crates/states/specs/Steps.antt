@@ -6,9 +6,8 @@ use Rattle.rules.specs.Rows.{bytes, digit}
 use Rattle.rules.specs.Flat.{flatDigits}
 use Rattle.common.specs.declared.Mirroring.{Mirroring}
 use Rattle.common.specs.declared.Mode.the-variants.{Board as OnBoard}
-use Rattle.cartridge.specs.Load.{badPrg, needed}
+use Rattle.cartridge.specs.Load.{badPrg, needed, noPowers}
 use Rattle.cartridge.specs.Mappers.{isMapper, mapperNumber}
-use Rattle.cartridge.specs.Steps.{notOneBit}
 use Rattle.cartridge.specs.declared.MapperType.{MapperType}
 use Rattle.cartridge.specs.declared.MapperType.the-variants.{Nrom, Mmc1, Uxrom, Cnrom, Mmc3}
 use Rattle.uxrom.specs.Uxrom as uxrom
@@ -44,7 +43,7 @@ unfoldable pub modeIsKept : MapperType → ℕ → Bool
 modeIsKept k c =
     let d = flatDigits cartSizes c in
     cond (eqb (digit d 2) 0) (isInesWord c && eqb (digit d 5) (digit d 4))
-    (not (notOneBit OnBoard (digit d 7) (digit d 8)) && (eqb (digit d 3) 1 || isInesWord c) && turnedFit k (eqb (digit d 5) (digit d 4)) (ltb (digit d 5) 2))
+    (not (noPowers OnBoard (digit d 7) (digit d 8)) && (eqb (digit d 3) 1 || isInesWord c) && turnedFit k (eqb (digit d 5) (digit d 4)) (ltb (digit d 5) 2))
 
 -- MMC1's digits in their ranges, and packed again the same word: no digit of another board
 unfoldable pub mmc1IsKept : ℕ → Bool

@@ -5,7 +5,7 @@ ghost use mathlib.Core.List.{[], _∷_};
 ghost use Rattle.rules.specs.Rows.{bytes, digit};
 ghost use Rattle.rules.specs.Flat.{flatWord, flatDigits};
 ghost use Rattle.common.specs.declared.Mode.the-variants.{Board as OnBoard};
-ghost use Rattle.cartridge.specs.Steps.{notOneBit};
+ghost use Rattle.cartridge.specs.Load.{noPowers};
 ghost use Rattle.states.specs.Words.{mirroringOf, mirroringDigit, cartSizes, banksSizes, irqSizes, cartWord, banksWord, regsWord, irqWord, wordsOf, mapperOf, cartOf, screensOf, uxromOf, cnromOf, mmc1Of, mmc3Of, registersOf, boardIn, digitsOf};
 ghost use Rattle.states.specs.Steps.{cartIsKept, isInesWord, modeIsKept, mmc1IsKept, banksAreKept, mmc3Fits, mmc3IsKept, afterClock, withScreens, afterWrite};
 use boards::Board;
@@ -396,13 +396,13 @@ pub fn cart_is_kept(mapper: MapperType, c: u64, length: u64) -> bool
         & (16 + prg * 16384 + chr * 8192 <= length)
 }
 
-// Refusal 8, by the one bit of a power of two.
-fn counts_not_one_bit(c: u64) -> bool
-    ensures { λ r. ⌜ r ≡ notOneBit OnBoard (digit (flatDigits cartSizes c) 7) (digit (flatDigits cartSizes c) 8) ⌝ }
+// Refusal 8, of the counts of the first word.
+fn counts_are_no_powers(c: u64) -> bool
+    ensures { λ r. ⌜ r ≡ noPowers OnBoard (digit (flatDigits cartSizes c) 7) (digit (flatDigits cartSizes c) 8) ⌝ }
 {
     let prg = c / 0x100_0000 % 0x1000;
     let chr = c / 0x10_0000_0000 % 0x1000;
-    (u64::count_ones(prg) != 1) | ((chr != 0) & (u64::count_ones(chr) != 1))
+    cartridge::no_powers(Mode::Board, prg, chr)
 }
 
 // What an iNES header says of PRG RAM and the counts: one mask.
@@ -413,7 +413,7 @@ fn is_ines_word(c: u64) -> bool
 }
 
 // What the mode asks of the first word. Two mirrorings are one where their digits are. The counts have a
-// branch of their own: joined with a test of the mirroring they would be counted bit by bit.
+// branch of their own: joined with the test of the mirroring they took many more instructions.
 pub fn mode_is_kept(mapper: MapperType, c: u64) -> bool
     ensures { λ r. ⌜ r ≡ modeIsKept mapper c ⌝ }
 {
@@ -421,7 +421,7 @@ pub fn mode_is_kept(mapper: MapperType, c: u64) -> bool
     let ines = is_ines_word(c);
     if c / 0x1_0000 % 2 == 0 {
         ines & same
-    } else if counts_not_one_bit(c) {
+    } else if counts_are_no_powers(c) {
         false
     } else {
         ((c / 0x2_0000 % 2 == 1) | ines) & boards::turned_fit(mapper, same, c / 0x10_0000 % 4 < 2)

@@ -10,5 +10,5 @@ verdict-on-spec =
     tie.close
     (tie.spec
     (λ c κs. search picks) (λ c κs. search picks) (λ c κs. search picks) (λ c κs. search picks) (λ c. search picks)
-    (λ c κs. search picks) (λ c κs. search picks) (λ c κs. search picks) (λ c κs. search picks) (λ c κs. search picks)
+    (λ c. search picks) (λ c. search picks) (λ c κs. search picks) (λ c κs. search picks) (λ c κs. search picks) (λ c κs. search picks) (λ c κs. search picks)
     (λ c. simp (c .first-of .ensures, c .before .bad-prg .ensures, c .before .before .nes2-not-taken .ensures, c .before .before .before .is-special .ensures, c .before .before .before .before .no-powers .ensures, c .before .before .before .before .before .needed .ensures, c .before .before .before .before .before .before .chr-in .ensures, c .before .before .before .before .before .before .before .prg-in .ensures, c .before .before .before .before .before .before .before .before .mapper-in .ensures)))
