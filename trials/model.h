@@ -1,7 +1,7 @@
 /*
- * The boards once more: document 01, and M-100 of document 02, read a second time and written plainly in C, with no eye to
- * speed and none to the library's code. The trials hold the library's answers, its states and both RAMs to it, and so do
- * the tests of the wrapper for Rust (through play.c). Answers and digits are numbers as in biekkarul.h.
+ * The boards once more: document 01, and M-100 and M-104 of document 02, read a second time and written plainly in C, with
+ * no eye to speed and none to the library's code. The trials hold the library's answers, its states and both RAMs to it,
+ * and so do the tests of the wrapper for Rust (through play.c). Answers and digits are numbers as in biekkarul.h.
  */
 #ifndef TRIALS_MODEL_H
 #define TRIALS_MODEL_H
@@ -31,8 +31,10 @@ struct model {
     uint8_t prg_ram[BIEKKARUL_RAM_LENGTH], chr_ram[BIEKKARUL_RAM_LENGTH];
 };
 
-/* "a list of the powers of two from 1 to 128", which goes on as far as M-100's counts do. */
-static int is_power_of_two(unsigned n) { return n > 0 && n <= 2048 && (n & (n - 1)) == 0; }
+/* Refusal 8: "no power of two", by M-104's "count of one bits". */
+static unsigned one_bits(unsigned n) { return n == 0 ? 0 : n % 2 + one_bits(n / 2); }
+
+static int is_power_of_two(unsigned n) { return one_bits(n) == 1; }
 
 static unsigned low(unsigned byte) { return byte & 15; }
 

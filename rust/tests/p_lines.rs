@@ -1,4 +1,4 @@
-//! Document 01's P lines through the wrapper, and lines of the same kind for M-100 of document 02.
+//! Document 01's P lines through the wrapper, and lines of the same kind for M-100 and M-104 of document 02.
 
 mod common;
 
@@ -300,17 +300,41 @@ fn m100_256_prg_blocks() {
     }
 }
 
+/// NROM and CNROM have one or two PRG blocks, also by the longer count.
 #[test]
-fn m100_powers_of_two_up_to_2048() {
-    for (prg, wanted) in [(257, 8), (512, 0), (3 * 256, 8), (1_024, 0), (14 * 256, 8)] {
-        let image = long(UXROM, prg, 0, &[]);
-        assert_eq!(answers(&image).1, wanted, "PRG count {prg}");
+fn m100_256_blocks_are_more_than_two() {
+    for byte6 in [NROM, CNROM] {
+        assert_eq!(answers(&long(byte6, 256, 0, &[])).1, 6);
     }
-    for (chr, wanted) in [(257, 8), (512, 0), (3 * 256, 8), (2_048, 0)] {
-        let image = long(CNROM, 1, chr, &[]);
-        assert_eq!(answers(&image).1, wanted, "CHR count {chr}");
+}
+
+/// Every count that a header can say, of PRG and of CHR, each beside others, with the mark and, where both are below
+/// 256, without it: 8 where Rust itself finds no power of two. A PRG count of 0 gives 6, and a CHR count of 0 passes.
+#[test]
+fn m104_every_count() {
+    const END: usize = 15 * 256; // a nibble of 15 is the exponent form
+    const OTHERS: [usize; 5] = [0, 1, 3, 8, 257];
+    let mut image = vec![0; HEADER + END * PRG_BLOCK + 257 * CHR_BLOCK];
+    let mut check = |prg: usize, chr: usize| {
+        image[..HEADER].copy_from_slice(&marked_header(UXROM, prg, chr, RAM_8K));
+        let wanted = match (prg, chr) {
+            (0, _) => 6,
+            (_, 0) if prg.is_power_of_two() => 0,
+            _ if prg.is_power_of_two() && chr.is_power_of_two() => 0,
+            _ => 8,
+        };
+        assert_eq!(answers(&image).1, wanted, "PRG {prg}, CHR {chr}");
+        if prg < 256 && chr < 256 {
+            image[7..HEADER].fill(0);
+            assert_eq!(answers(&image).1, wanted, "unmarked, PRG {prg}, CHR {chr}");
+        }
+    };
+    for count in 0..END {
+        for other in OTHERS {
+            check(count, other);
+            check(other, count);
+        }
     }
-    assert_eq!(answers(&long(NROM, 256, 0, &[])).1, 6, "NROM has 1 or 2");
 }
 
 /// The greatest image, and one byte less.

@@ -1,6 +1,6 @@
-//! Random headers and histories through the wrapper, held against a second reading of document 01 and of M-100
-//! that was written apart from the library: trials/model.h, in C, as the program trials/play.c. Board mode has
-//! no other engine to be compared with.
+//! Random headers and histories through the wrapper, held against a second reading of document 01, of M-100
+//! and of M-104 that was written apart from the library: trials/model.h, in C, as the program trials/play.c.
+//! Board mode has no other engine to be compared with.
 
 mod common;
 

@@ -3,6 +3,7 @@ use Prim.Native.Nat.{ℕ, _+_, _-_, _*_}
 use mathlib.Core.Path.{_≡_}
 use mathlib.Core.Bool.{Bool, false, cond, not, _&&_, _||_}
 use mathlib.Core.List.{List, [], _∷_}
+use lib.Count.{ones}
 use lib.Dec.{ltb, leb, eqb}
 use lib.ListN.{length, replicate}
 use Rattle.common.specs.Common.{KB8, KB16}
@@ -21,11 +22,10 @@ use Rattle.cartridge.specs.declared.Verdict.the-variants.{Take, Refuse}
 use Rattle.cartridge.specs.declared.Loaded.{Loaded}
 use Rattle.cartridge.specs.declared.Loaded.the-variants.{Accepted, Refused}
 
--- "a list of the powers of two from 1 to 128", which M-100's counts take to 2,048
+-- refusal 8's "power of two", by M-104's "count of one bits"; `ones`, the toolchain's, is opened with it
 unfoldable pub isPower : ℕ → Bool
-isPower n =
-    (eqb 1 n || eqb 2 n || eqb 4 n || eqb 8 n || eqb 16 n || eqb 32 n || eqb 64 n || eqb 128 n)
-    || (eqb 256 n || eqb 512 n || eqb 1024 n || eqb 2048 n)
+unfolding ones
+isPower n = eqb (ones n) 1
 
 -- refusal 6: "PRG count 0; or above 2 for mappers 0 and 3"
 unfoldable pub badPrg : ℕ → ℕ → Bool

@@ -374,29 +374,15 @@ fn counts_end(mode: Mode, mark: bool) -> u16
     if is_nes2_in(mode, mark) { 4096 } else { 256 }
 }
 
-// Refusal 8 consults this list.
-const POWERS_OF_TWO: [u64; 12] = [1, 2, 4, 8, 16, 32, 64, 128, 256, 512, 1024, 2048];
-
+// In a power of two exactly one bit is 1, and in no other number.
 fn is_power_of_two(n: u64) -> bool
     ensures { λ r. ⌜ r ≡ isPower n ⌝ }
 {
-    let of_a_byte = (POWERS_OF_TWO[0] == n)
-        | (POWERS_OF_TWO[1] == n)
-        | (POWERS_OF_TWO[2] == n)
-        | (POWERS_OF_TWO[3] == n)
-        | (POWERS_OF_TWO[4] == n)
-        | (POWERS_OF_TWO[5] == n)
-        | (POWERS_OF_TWO[6] == n)
-        | (POWERS_OF_TWO[7] == n);
-    let above = (POWERS_OF_TWO[8] == n)
-        | (POWERS_OF_TWO[9] == n)
-        | (POWERS_OF_TWO[10] == n)
-        | (POWERS_OF_TWO[11] == n);
-    of_a_byte | above
+    u64::count_ones(n) == 1
 }
 
 // Refusal 8: a PRG count, or a CHR count that is not 0, is no power of two. Board mode only. Counts are as
-// wide as a word of a kept state, which every call judges by this.
+// wide as a word of a kept state, whose calls judge it by this.
 pub fn no_powers(mode: Mode, prg: u64, chr: u64) -> bool
     ensures { λ r. ⌜ r ≡ noPowers mode prg chr ⌝ }
 {

@@ -1,4 +1,4 @@
--- The same expression, written as the definition. Assumes nothing.
+-- The bits of one count. Assumes nothing.
 use Rattle.rules.proofs.Picks.{picks}
 use Rattle.cartridge.specs.Load.{isPower}
 use Rattle.cartridge.proofs.is_power_of_two.Statement.{statement}
@@ -6,9 +6,4 @@ use Rattle.cartridge.proofs.is_power_of_two.Tie as tie
 
 pub is-power-of-two-spec : {M : Type 1} → statement M
 unfolding isPower
-is-power-of-two-spec =
-    tie.close
-    (tie.spec
-    (λ c. search picks) (λ c. search picks) (λ c. search picks) (λ c. search picks) (λ c. search picks)
-    (λ c. search picks) (λ c. search picks) (λ c. search picks) (λ c. search picks) (λ c. search picks)
-    (λ c. search picks) (λ c. search picks) (λ c. search picks))
+is-power-of-two-spec = tie.close (tie.spec (λ c. search picks))
