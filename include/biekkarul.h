@@ -23,7 +23,7 @@ extern "C" {
 #endif
 
 /* The version of the calls that this header declares; biekkarul_version() answers the library's. */
-#define BIEKKARUL_VERSION 3
+#define BIEKKARUL_VERSION 4
 
 /* Lengths of the lent buffers, in bytes. */
 #define BIEKKARUL_STATE_LENGTH 40  /* a board */
@@ -128,7 +128,7 @@ enum biekkarul_digit {
     BIEKKARUL_DIGIT_MMC3_CHR_MODE,
     BIEKKARUL_DIGIT_MMC3_IRQ_ENABLED,
     BIEKKARUL_DIGIT_MMC3_RELOAD,
-    BIEKKARUL_DIGIT_MMC3_IRQ_LINE,
+    BIEKKARUL_DIGIT_MMC3_IRQ_LINE, /* 1 up, 0 low: the level, without a clock; up on MMC3 in board mode only */
     BIEKKARUL_DIGIT_RAM_ENABLED,
     BIEKKARUL_DIGIT_RAM_WRITES_DENIED
 };
@@ -183,8 +183,10 @@ uint16_t biekkarul_write(uint8_t *state, size_t state_length,
                          uint16_t address, uint8_t value);
 
 /*
- * One clock of MMC3's counter; on other boards nothing moves.
- * Answers 1 when an IRQ comes, else 0. Refused with 10 when the state is out of range.
+ * One clock of MMC3's counter; on other boards nothing moves, and the answer is 0.
+ * House mode answers 1 at the clocks where an IRQ comes, else 0. Board mode answers the level of the IRQ line after the
+ * clock: 1 from the clock that raises it on, until an even write to E000-FFFF lowers it. docs/ABI.md, "The IRQ line".
+ * Refused with 10 when the state is out of range.
  */
 uint16_t biekkarul_clock(uint8_t *state, size_t state_length);
 

@@ -1,6 +1,6 @@
 #!/usr/bin/env bash
 # tracerun on traces of every board, and on inputs that are no trace. The expected answers are worked out by hand from
-# document 01 and from M-100 of document 02. Runs after `rt ci`, which leaves target/bin/tracerun.
+# document 01 and from M-100 and M-101 of document 02. Runs after `rt ci`, which leaves target/bin/tracerun.
 set -uo pipefail
 source "$(dirname "${BASH_SOURCE[0]}")/need.bash" || exit 2
 cd "$(dirname "${BASH_SOURCE[0]}")/.." || exit 2
@@ -93,8 +93,21 @@ plays "board MMC1: a bit 7 write also sets PRG mode 3" 01 "$dir/mmc1" \
 irq="$(W C000=02)$(W C001=00)$(W E001=00)$(C)$(C)$(C)$(C)$(C)$(C)$(C)"
 plays "house MMC3: latch 2 answers yes at clocks 4 and 7" 00 "$dir/mmc3" "$irq" \
   "load 4 V 1 1" "W -" "W -" "W -" "C 0" "C 0" "C 0" "C 1" "C 0" "C 0" "C 1"
-plays "board MMC3: latch 2 answers yes at clocks 3 and 6" 01 "$dir/mmc3" "$irq" \
-  "load 4 V 1 1" "W -" "W -" "W -" "C 0" "C 0" "C 1" "C 0" "C 0" "C 1" "C 0"
+plays "board MMC3: with latch 2 the line is up from clock 3 on" 01 "$dir/mmc3" "$irq" \
+  "load 4 V 1 1" "W -" "W -" "W -" "C 0" "C 0" "C 1" "C 1" "C 1" "C 1" "C 1"
+# two clocks with latch 1; a write to each register but that at E000, and a read; a clock, which reloads with 5; then acknowledged
+acknowledged="$(W C000=01)$(W C001=00)$(W E001=00)$(C)$(C)"
+acknowledged+="$(W 8000=06)$(W 8001=00)$(W A000=00)$(W A001=00)$(W C000=05)$(W FFFF=00)$(R E000)"
+acknowledged+="$(C)$(W E000=00)$(C)$(W E001=00)$(C)$(C)$(C)$(C)$(C)"
+plays "board MMC3: the line is up until an even write to E000-FFFF" 01 "$dir/mmc3" "$acknowledged" \
+  "load 4 V 1 1" "W -" "W -" "W -" "C 0" "C 1" "W -" "W -" "W -" "W -" "W -" "W -" "R 01" \
+  "C 1" "W -" "C 0" "W -" "C 0" "C 0" "C 0" "C 1" "C 1"
+plays "house MMC3: the same calls, and yes at single clocks" 00 "$dir/mmc3" "$acknowledged" \
+  "load 4 V 1 1" "W -" "W -" "W -" "C 0" "C 0" "W -" "W -" "W -" "W -" "W -" "W -" "R 01" \
+  "C 1" "W -" "C 0" "W -" "C 0" "C 0" "C 0" "C 0" "C 1"
+plays "board MMC3: with latch 0 any clock raises the line, but not while disabled" 01 "$dir/mmc3" \
+  "$(W C000=00)$(W C001=00)$(W E001=00)$(C)$(C)$(W FFFE=FF)$(C)$(W E001=00)$(C)" \
+  "load 4 V 1 1" "W -" "W -" "W -" "C 1" "C 1" "W -" "C 0" "W -" "C 1"
 plays "house MMC3: notices against the header's, refusal 14" 00 "$dir/mmc3" \
   "$(W A000=01)$(W A000=01)$(W A000=00)$(W E001=00)$(W E000=00)$(R 8000)" \
   "load 4 V 1 1" "W H" "W H" "W -" "W -" "W !14" "R 00"

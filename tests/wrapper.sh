@@ -90,6 +90,12 @@ inspected() {
   says "$3" "$1 mode: $2" inspect "$work/game.nes"
 }
 
+# clocked LINE EVENTS: a line about a trace of MMC3 with these three events, as hex
+clocked() {
+  { printf '\x01\0\0\x40\x10\0'; image 01 00 40 16400; printf '\0\x03'; printf "\\x${2// /\\x}"; } >"$work/clocked"
+  says 0 "$1" inspect "$work/clocked"
+}
+
 marked() { # marked PRG CHR BYTE6 BYTE8 BYTE9 BYTE10 BYTE11 LENGTH: the same, marked NES 2.0
   printf "NES\\x1a\\x$1\\x$2\\x$3\\x08\\x$4\\x$5\\x$6\\x$7"
   head -c $(($8 - 12)) /dev/zero
@@ -323,11 +329,21 @@ step "inspect: a longer count that is no power of two" inspected_marked \
   0 01 00 10 00 01 00 07 4210704
 step "inspect: a longer count that is taken" inspected_marked "board mode: accepted, with PRG RAM" 0 00 00 10 00 01 07 07 4194320
 step "inspect: where the modes part" says 0 "the modes part at event 6 (write A000=00):" inspect "$sample.trace"
+# A reload of latch 0, IRQ enabled, and a clock: only board mode answers yes. The same with latch 1 and no reload: only house.
+board_yes="01 C0 01 00 01 E0 01 00 02 00 00 00"
+house_yes="01 C0 00 01 01 E0 01 00 02 00 00 00"
+step "inspect: a clock without an IRQ" clocked "  house  C 0     no IRQ" "$board_yes"
+step "inspect: a clock after which the line is up" clocked "  board  C 1     the IRQ line is up" "$board_yes"
+step "inspect: a clock with an IRQ" clocked "  house  C 1     an IRQ" "$house_yes"
+step "inspect: a clock after which the line is low" clocked "  board  C 0     the IRQ line is low" "$house_yes"
 step "inspect: a truncated trace" says 1 \
   "'$work/truncated' begins as a trace and is malformed at byte 6: the image has 24592 bytes, but only 994 bytes are left" \
   inspect "$work/truncated"
 { head -c 16000 "$sample.snapshot"; printf X; tail -c +16002 "$sample.snapshot"; } >"$work/damaged"
 step "inspect: a snapshot" says 0 "'$sample.snapshot' is a snapshot in house mode" inspect "$sample.snapshot"
+step "inspect: a snapshot's registers" says 0 \
+  "  registers     Mmc3(Mmc3Registers { banks: [0, 0, 8, 0, 0, 0, 0, 0], select: 2, prg_mode: 0, chr_mode: 0, latch: 1, \
+counter: 1, irq_enabled: true, reload: false, irq_line: false })" inspect "$sample.snapshot"
 step "inspect: a damaged snapshot" says 1 \
   "'$work/damaged' begins as a snapshot, and the snapshot is damaged: its check sum does not fit its bytes" \
   inspect "$work/damaged"

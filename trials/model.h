@@ -1,7 +1,7 @@
 /*
- * The boards once more: document 01, and M-100 and M-104 of document 02, read a second time and written plainly in C, with
- * no eye to speed and none to the library's code. The trials hold the library's answers, its states and both RAMs to it,
- * and so do the tests of the wrapper for Rust (through play.c). Answers and digits are numbers as in biekkarul.h.
+ * The boards once more: document 01, and M-100, M-101 and M-104 of document 02, read a second time and written plainly in
+ * C, with no eye to speed and none to the library's code. The trials hold the library's answers, its states and both RAMs
+ * to it, and so do the tests of the wrapper for Rust (through play.c). Answers and digits are numbers as in biekkarul.h.
  */
 #ifndef TRIALS_MODEL_H
 #define TRIALS_MODEL_H
@@ -28,6 +28,7 @@ struct model {
     unsigned serial_count, serial_bits, mmc1_prg_mode, mmc1_chr_mode, chr_0, chr_1, mmc1_prg;
     unsigned selected, r[8], mmc3_prg_mode, mmc3_chr_mode;
     unsigned latch, counter, reload, enabled;
+    unsigned line; /* M-101: 1 up, 0 low; "always low in house mode and on other boards" */
     uint8_t prg_ram[BIEKKARUL_RAM_LENGTH], chr_ram[BIEKKARUL_RAM_LENGTH];
 };
 
@@ -282,9 +283,9 @@ static unsigned mmc3_register(struct model *m, unsigned address, unsigned value)
     case 13: m->reload = 1; break;
     case 14:
         if (!m->board_mode && m->enabled && m->counter <= 1) return REFUSED(14);
-        m->enabled = 0;
+        m->enabled = m->line = 0; /* M-101: "lowers it and disables" */
         break;
-    case 15: m->enabled = 1; break;
+    case 15: m->enabled = 1; break; /* M-101: "an odd write doesn't lower it" */
     }
     return 0;
 }
@@ -321,13 +322,15 @@ static unsigned model_write(struct model *m, unsigned address, unsigned value) {
     return 0;
 }
 
+/* M-101, board mode: "the line, once raised, stays raised", and a clock "answers the level of the line". */
 static unsigned model_clock(struct model *m) {
     unsigned at_zero = m->counter == 0, marked = m->reload;
     if (m->mapper != MMC3) return 0;
     m->counter = marked || at_zero ? m->latch : m->counter - 1;
     m->reload = 0;
-    if (m->board_mode) return m->counter == 0 && m->enabled;
-    return !marked && at_zero && m->enabled;
+    if (!m->board_mode) return !marked && at_zero && m->enabled;
+    if (m->counter == 0 && m->enabled) m->line = 1;
+    return m->line;
 }
 
 /*
@@ -442,6 +445,7 @@ static inline unsigned *field_of(struct model *m, unsigned digit) {
     case BIEKKARUL_DIGIT_MMC3_CHR_MODE: return &m->mmc3_chr_mode;
     case BIEKKARUL_DIGIT_MMC3_IRQ_ENABLED: return &m->enabled;
     case BIEKKARUL_DIGIT_MMC3_RELOAD: return &m->reload;
+    case BIEKKARUL_DIGIT_MMC3_IRQ_LINE: return &m->line;
     default: return NULL;
     }
 }
@@ -472,7 +476,7 @@ static inline void model_take_up(struct model *m, const uint64_t *digits) {
 
 /*
  * The bytes of a state, from docs/ABI.md: five words of 64 bits, little-endian, each a row of digits, the first one lowest.
- * Whether they are a board's is judged here from "State ranges" and M-100, without the library.
+ * Whether they are a board's is judged here from "State ranges", M-100 and M-101, without the library.
  */
 static const unsigned digit_bits[5][13] = {
     {8, 8, 1, 1, 2, 2, 2, 12, 12},
@@ -528,9 +532,15 @@ static inline int is_mirrored(const uint64_t *d) {
     return current == headers;
 }
 
+/* M-101, of board mode: "it may be up on MMC3 here, enabled or not". */
+static inline int line_may_be_up(const uint64_t *d) {
+    return d[BIEKKARUL_DIGIT_MODE] == BIEKKARUL_BOARD && d[BIEKKARUL_DIGIT_MAPPER] == MMC3;
+}
+
 /* Whether a digit of words 2 to 4 is this board's; the others hold their start value. */
-static inline int is_used_by(uint64_t mapper, unsigned digit) {
-    switch (mapper) {
+static inline int is_used(const uint64_t *d, unsigned digit) {
+    if (digit == BIEKKARUL_DIGIT_MMC3_IRQ_LINE) return line_may_be_up(d);
+    switch (d[BIEKKARUL_DIGIT_MAPPER]) {
     case UXROM: return digit == BIEKKARUL_DIGIT_UXROM_BANK;
     case CNROM: return digit == BIEKKARUL_DIGIT_CNROM_BANK;
     case MMC1: return digit >= BIEKKARUL_DIGIT_MMC1_SERIAL_COUNT && digit <= BIEKKARUL_DIGIT_MMC1_PRG;
@@ -543,7 +553,7 @@ static inline int is_used_by(uint64_t mapper, unsigned digit) {
 static inline int are_registers(const uint64_t *d) {
     unsigned k;
     for (k = BIEKKARUL_DIGIT_UXROM_BANK; k < BIEKKARUL_DIGITS; k++)
-        if (!is_used_by(d[BIEKKARUL_DIGIT_MAPPER], k) && d[k] != (k == BIEKKARUL_DIGIT_RAM_ENABLED)) return 0;
+        if (!is_used(d, k) && d[k] != (k == BIEKKARUL_DIGIT_RAM_ENABLED)) return 0;
     if (d[BIEKKARUL_DIGIT_MMC1_SERIAL_COUNT] > 4) return 0;
     if (d[BIEKKARUL_DIGIT_MMC1_SERIAL_VALUE] % (32u >> d[BIEKKARUL_DIGIT_MMC1_SERIAL_COUNT]) != 0) return 0;
     if (d[BIEKKARUL_DIGIT_MMC3_R0] % 2 != 0 || d[BIEKKARUL_DIGIT_MMC3_R0 + 1] % 2 != 0) return 0;

@@ -32,6 +32,7 @@ history() {
   4)
     for n in 0 1 2 3 4 5 6 7; do echo "${write}80000${n}${write}8001FF"; done
     echo "${write}8000C0${write}A00001${write}C00002${write}C00100${write}E00100$clock$clock$clock$clock$clock${write}E00000"
+    line_history "$write" "$clock"
     echo "${write}C000FF${write}C00100$clock$clock"
     ;;
   esac
@@ -39,6 +40,16 @@ history() {
     echo "$write${address}5A$read$address"
   done
   for address in 0000 1FFF 6000 7FFF; do echo "$write${address}FF$read$address"; done
+}
+
+# line_history WRITE CLOCK: MMC3's line as board mode has it (M-101). A disabled unit does not raise it, an enabled one does.
+# It stays up over clocks and over a write to every register but E000's; acknowledged there, it is low until a reload with 0
+# raises it again.
+line_history() {
+  local write=$1 clock=$2 other
+  echo "${write}C00001${write}C00100$clock$clock${write}E00100$clock$clock$clock"
+  for other in 8000C0 8001FF A00001 A001FF C00004 C00100 E00100; do echo "$write$other$clock"; done
+  echo "${write}E00000$clock${write}E00100$clock${write}C00000${write}C00100$clock$clock${write}FFFEFF$clock"
 }
 
 # spoils MAPPER: bytes put into the state that leave it a state of this board (of NROM: that leave it none), as hex.
@@ -50,6 +61,13 @@ spoils() {
   3) echo 861102 ;;
   4) echo 861A07861E05862103862227 ;; # R2, R6, the counter, select 7 and enabled
   esac
+}
+
+# line_spoils MODE: the line put up in the state, with IRQ disabled and with IRQ enabled (M-101): MMC3 in board mode takes it, no
+# other board does. Put up, it is acknowledged; put up again, it gets an odd write and then a load. A clock after each.
+line_spoils() {
+  local byte
+  for byte in 80 A0; do echo "8622${byte}05 02E00000 05 8622${byte}05 02E00100 05 87$1 05"; done
 }
 
 # seeds CALLS TRACES: fills the two folders.
@@ -66,6 +84,8 @@ seeds() {
         done
       done
       bytes "$mode" 00 "0202$byte6${zeros:0:18}" 000000 "$(spoils "$mapper")" 85008500 "$(history "$mapper" 00 02 05)" >"$1/seed-spoilt-$mapper-$mode"
+      # the line by itself, in a few calls: its name stands first, so that a fault of it is found at once
+      bytes "$mode" 00 "0202$byte6${zeros:0:18}" 000000 "$(line_history 22 05)" "$(line_spoils "$mode")" >"$1/line-$mapper-$mode"
       for counts in 0100 0101 0103 0200 0201; do # 40,976 bytes at most
         # form, choice of what is spoilt, mode, header
         bytes 00 00 "$mode" "$counts$byte6${zeros:0:18}" "$(history "$mapper" 00 01 02)" >"$2/seed-$mapper-$mode-$counts"

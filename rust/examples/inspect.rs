@@ -431,25 +431,34 @@ fn where_runs_part(trace: &Trace, house: &Run, board: &Run) -> String {
         Some(number) => format!(
             "the modes part at event {number} ({}):\n  house  {}\n  board  {}\n",
             trace.events()[number],
-            answer(house.answers[number]),
-            answer(board.answers[number])
+            answer(house.answers[number], Mode::House),
+            answer(board.answers[number], Mode::Board)
         ),
     }
 }
 
 /// An answer as a line of the text has it, and in words.
-fn answer(answer: Answer) -> String {
+fn answer(answer: Answer, mode: Mode) -> String {
     let words = match answer {
         Answer::Read(Ok(byte)) => format!("the byte {byte:02X}"),
         Answer::Write(Ok(None)) => "no notice".to_string(),
         Answer::Write(Ok(Some(mirroring))) => format!("the screens turn: {mirroring}"),
-        Answer::Clock(Ok(true)) => "an IRQ".to_string(),
-        Answer::Clock(Ok(false)) => "no IRQ".to_string(),
+        Answer::Clock(Ok(yes)) => clock_answer(yes, mode).to_string(),
         Answer::Read(Err(refusal)) | Answer::Write(Err(refusal)) | Answer::Clock(Err(refusal)) => {
             refusal.to_string()
         }
     };
     format!("{answer:<7} {words}")
+}
+
+/// House mode tells what came at that clock, board mode the level of the line after it.
+fn clock_answer(yes: bool, mode: Mode) -> &'static str {
+    match (mode, yes) {
+        (Mode::House, true) => "an IRQ",
+        (Mode::House, false) => "no IRQ",
+        (Mode::Board, true) => "the IRQ line is up",
+        (Mode::Board, false) => "the IRQ line is low",
+    }
 }
 
 fn of_snapshot(bytes: &[u8]) -> Report {

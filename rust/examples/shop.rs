@@ -286,12 +286,14 @@ fn mix_ups_are_refused(titles: &[Title], own: usize, snapshot: &Snapshot) -> Res
     Ok(())
 }
 
-/// Runs in which no notice, no IRQ or no refusal comes would prove little.
+/// Runs in which no notice, no clock's yes or no refusal comes would prove little.
 fn nothing_happened(played: &[Played]) -> Option<String> {
-    let counts = [notices(played), irqs(played), refusals(played)];
-    counts
-        .contains(&0)
-        .then(|| format!("notices, IRQs and refusals are {counts:?}: the runs show too little"))
+    let counts = [notices(played), yes_clocks(played), refusals(played)];
+    counts.contains(&0).then(|| {
+        format!(
+            "notices, clocks answered yes and refusals are {counts:?}: the runs show too little"
+        )
+    })
 }
 
 fn count(played: &[Played], is_one: impl Fn(&Answer) -> bool) -> usize {
@@ -305,7 +307,8 @@ fn notices(played: &[Played]) -> usize {
     })
 }
 
-fn irqs(played: &[Played]) -> usize {
+/// In house mode an IRQ comes at such a clock; in board mode the IRQ line is up after it.
+fn yes_clocks(played: &[Played]) -> usize {
     count(played, |answer| *answer == Answer::Clock(Ok(true)))
 }
 
@@ -320,13 +323,13 @@ fn summary(titles: &[Title], submissions: &[Submission], played: &[Played]) -> S
     };
     format!(
         "{RUNS} runs in {THREADS} threads, {} in house mode and {} in board mode\n\
-         {} calls with {} notices, {} IRQs and {} refusals\n\
+         {} calls with {} notices, {} clocks answered yes and {} refusals\n\
          {} snapshots of {} bytes, taken up again in new boards and in place: the same answers\n",
         in_mode(Mode::House),
         in_mode(Mode::Board),
         count(played, |_| true),
         notices(played),
-        irqs(played),
+        yes_clocks(played),
         refusals(played),
         played.len(),
         Snapshot::LENGTH

@@ -390,14 +390,78 @@ impl<I: AsRef<[u8]>> Board<I> {
 }
 
 impl<I> Board<I> {
-    /// One clock of MMC3's counter; true when an IRQ comes. On other boards nothing moves.
+    /// One clock of MMC3's counter. On other boards nothing moves, and the answer is false.
+    ///
+    /// In house mode the answer is whether an IRQ comes at this clock, as potatis answers. In board mode it is
+    /// the level of the interrupt line after the clock: true while the line is up. A clock that leaves the
+    /// counter at 0, with IRQ enabled, raises the line, and it stays up until an even write to E000-FFFF
+    /// acknowledges it. Between clocks [`irq_line`](Board::irq_line) says the level.
+    ///
+    /// An emulator that counts IRQs counts edges: clocks that answer true where the line was low before. A
+    /// handler that acknowledges each raise before the next, as games do by an even write to E000-FFFF and then
+    /// an odd one to enable again, gets each as an edge. While the line is up, another raise makes no edge, as
+    /// on the real board: the line just is up. In house mode, where the line is always low, an edge is what the
+    /// clock answers.
     ///
     /// # Errors
     ///
     /// None on a board that this crate made: the library refuses only states that no board could have.
+    ///
+    /// ```
+    /// use biekkarul::{Board, Mode, Refusal};
+    ///
+    /// fn edge(board: &mut Board) -> Result<bool, Refusal> {
+    ///     let was_up = board.irq_line();
+    ///     Ok(board.clock()? && !was_up)
+    /// }
+    ///
+    /// # let mut image = vec![0x4E, 0x45, 0x53, 0x1A, 1, 1, 0x41, 0];
+    /// # image.resize(16 + 16_384 + 8_192, 0);
+    /// let mut board = Board::load(image, Mode::Board)?; // MMC3
+    /// board.write(0xC000, 2)?; // the latch
+    /// board.write(0xC001, 0)?; // reload
+    /// board.write(0xE001, 0)?; // enable
+    /// let mut edges = Vec::new();
+    /// for clock in 1..=9 {
+    ///     if edge(&mut board)? {
+    ///         edges.push(clock);
+    ///         board.write(0xE000, 0)?; // acknowledge, which disables
+    ///         board.write(0xE001, 0)?; // enable again
+    ///     }
+    /// }
+    /// assert_eq!(edges, [3, 6, 9]);
+    /// # Ok::<(), Refusal>(())
+    /// ```
     #[inline]
     pub fn clock(&mut self) -> Result<bool, Refusal> {
         accepted(ffi::clock(&mut self.state)).map(yes)
+    }
+
+    /// Whether MMC3's interrupt line is up: the level that a [`clock`](Board::clock) answers in board mode, here
+    /// without a clock. After an acknowledging write an emulator learns from it that the line no longer asks for
+    /// an interrupt. In house mode, and on other boards, the line is always low.
+    ///
+    /// ```
+    /// use biekkarul::{Board, Mode, Refusal};
+    ///
+    /// # let mut image = vec![0x4E, 0x45, 0x53, 0x1A, 1, 1, 0x41, 0];
+    /// # image.resize(16 + 16_384 + 8_192, 0);
+    /// let mut board = Board::load(image, Mode::Board)?; // MMC3
+    /// board.write(0xC000, 1)?; // the latch
+    /// board.write(0xC001, 0)?; // reload
+    /// board.write(0xE001, 0)?; // enable
+    /// assert!(!board.clock()?); // the counter is 1, as the latch says
+    /// assert!(board.clock()?); // it is 0: the line goes up
+    /// assert!(board.clock()?); // it is 1 again: the line stays up
+    /// assert!(board.irq_line());
+    ///
+    /// board.write(0xE000, 0)?; // acknowledge
+    /// assert!(!board.irq_line());
+    /// # Ok::<(), Refusal>(())
+    /// ```
+    #[must_use]
+    pub fn irq_line(&self) -> bool {
+        self.digits().irq_line()
     }
 
     /// Where each of the 64 pages of 1 KB is read from; page 0 begins at address 0000.

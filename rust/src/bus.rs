@@ -228,6 +228,10 @@ impl<I: AsRef<[u8]>, C: FnMut(&Mirroring)> BusBoard<I, C> {
     }
 
     /// One clock of the interrupt counter; false once a call was refused.
+    ///
+    /// In house mode the answer is whether an IRQ comes at this clock, as potatis answers. In board mode it is the
+    /// level of the interrupt line after the clock, which stays up until an even write to E000-FFFF acknowledges
+    /// it; [`Board::clock`] has how IRQs are then counted.
     #[inline]
     pub fn irq(&mut self) -> bool {
         if self.is_over() {
@@ -237,6 +241,29 @@ impl<I: AsRef<[u8]>, C: FnMut(&Mirroring)> BusBoard<I, C> {
             self.end(refusal);
             false
         })
+    }
+
+    /// Whether the interrupt line is up, as [`Board::irq_line`] says it without a clock; false once a call was
+    /// refused.
+    ///
+    /// ```
+    /// # use biekkarul::{bus::BusBoard, Board, Mode, Refusal};
+    /// # let mut image = vec![0x4E, 0x45, 0x53, 0x1A, 1, 1, 0x41, 0];
+    /// # image.resize(16 + 16_384 + 8_192, 0);
+    /// let mut cartridge = BusBoard::new(Board::load(image, Mode::Board)?); // MMC3
+    /// cartridge.write8(1, 0xC000); // the latch
+    /// cartridge.write8(0, 0xC001); // reload
+    /// cartridge.write8(0, 0xE001); // enable
+    /// assert_eq!([cartridge.irq(), cartridge.irq(), cartridge.irq()], [false, true, true]);
+    /// assert!(cartridge.irq_line());
+    ///
+    /// cartridge.write8(0, 0xE000); // acknowledge
+    /// assert!(!cartridge.irq_line());
+    /// # Ok::<(), Refusal>(())
+    /// ```
+    #[must_use]
+    pub fn irq_line(&self) -> bool {
+        !self.is_over() && self.board.irq_line()
     }
 
     /// Sets what is told of each notice, in place of what was set before.

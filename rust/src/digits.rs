@@ -87,7 +87,7 @@ pub enum Digit {
     Mmc3IrqEnabled,
     /// MMC3's reload mark.
     Mmc3Reload,
-    /// Reserved: 0.
+    /// MMC3's interrupt line: 1 up, 0 low. In house mode it is always 0.
     Mmc3IrqLine,
     /// Reserved: 1.
     RamEnabled,
@@ -141,6 +141,10 @@ impl Digits {
     #[must_use]
     pub fn has_prg_ram(&self) -> bool {
         self[Digit::PrgRam] == 1
+    }
+
+    pub(crate) fn irq_line(&self) -> bool {
+        self[Digit::Mmc3IrqLine] == 1
     }
 
     pub(crate) fn header_mirroring(&self) -> Mirroring {

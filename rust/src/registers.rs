@@ -79,6 +79,8 @@ pub struct Mmc3Registers {
     pub irq_enabled: bool,
     /// Whether the next clock takes the latch.
     pub reload: bool,
+    /// The interrupt line's level: whether it is up. In house mode it is always low.
+    pub irq_line: bool,
 }
 
 impl Digits {
@@ -121,6 +123,7 @@ impl Digits {
             counter: self.byte(Digit::Mmc3Counter),
             irq_enabled: self[Digit::Mmc3IrqEnabled] == 1,
             reload: self[Digit::Mmc3Reload] == 1,
+            irq_line: self.irq_line(),
         }
     }
 

@@ -109,7 +109,7 @@ pub enum Answer {
     Read(Result<u8, Refusal>),
     /// The notice that a write gave.
     Write(Result<Option<Mirroring>, Refusal>),
-    /// Whether a clock brought an IRQ.
+    /// In house mode whether a clock brought an IRQ, in board mode whether the interrupt line was up after it.
     Clock(Result<bool, Refusal>),
 }
 

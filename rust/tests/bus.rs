@@ -10,7 +10,7 @@ use std::thread;
 
 use biekkarul::bus::BusBoard;
 use biekkarul::{Board, Mirroring, Mode, Refusal, SnapshotError, RAM_LENGTH};
-use common::{data, kept, load, marked, BOTH_MODES, MMC1, MMC3, NO_RAM, UXROM};
+use common::{data, image, kept, load, marked, Shifting, BOTH_MODES, MMC1, MMC3, NO_RAM, UXROM};
 
 /// A cartridge on the bus, and the notices it has given.
 fn on_bus(byte6: u8, prg: u8, chr: u8, mode: Mode) -> (BusBoard, Rc<RefCell<Vec<Mirroring>>>) {
@@ -25,20 +25,77 @@ fn on_bus(byte6: u8, prg: u8, chr: u8, mode: Mode) -> (BusBoard, Rc<RefCell<Vec<
 
 #[test]
 fn answers_are_the_boards() {
-    let mut board = load(MMC3 | 1, 2, 1, Mode::House);
-    let (mut cartridge, _) = on_bus(MMC3 | 1, 2, 1, Mode::House);
-    for (address, value) in [(0xC000, 1), (0xC001, 0), (0xE001, 0), (0x6123, 9)] {
-        board.write(address, value).unwrap();
-        cartridge.write8(value, address);
+    for mode in BOTH_MODES {
+        let mut board = load(MMC3 | 1, 2, 1, mode);
+        let (mut cartridge, _) = on_bus(MMC3 | 1, 2, 1, mode);
+        for (address, value) in [(0xC000, 1), (0xC001, 0), (0xE001, 0), (0x6123, 9)] {
+            board.write(address, value).unwrap();
+            cartridge.write8(value, address);
+        }
+        for address in [0x0000, 0x1FFF, 0x6123, 0x8000, 0xFFFF] {
+            assert_eq!(Ok(cartridge.read8(address)), board.read(address));
+        }
+        for _ in 0..10 {
+            assert_eq!(Ok(cartridge.irq()), board.clock());
+            assert_eq!(cartridge.irq_line(), board.irq_line());
+        }
+        assert!(kept(cartridge.board()) == kept(&board));
+        assert_eq!(cartridge.refusal(), None);
     }
-    for address in [0x0000, 0x1FFF, 0x6123, 0x8000, 0xFFFF] {
-        assert_eq!(Ok(cartridge.read8(address)), board.read(address));
+}
+
+/// Latch 1, reload and enable: the clocks of the first five that answer yes, and those after which the line is up.
+#[test]
+fn irqs_and_the_line() {
+    for (mode, yes_at, up_at) in [
+        (Mode::House, &[3, 5][..], &[][..]),
+        (Mode::Board, &[2, 3, 4, 5], &[2, 3, 4, 5]),
+    ] {
+        let (mut cartridge, _) = on_bus(MMC3, 1, 1, mode);
+        for (value, address) in [(1, 0xC000), (0, 0xC001), (0, 0xE001)] {
+            cartridge.write8(value, address);
+        }
+        for clock in 1..=5 {
+            assert_eq!(cartridge.irq(), yes_at.contains(&clock), "{mode} {clock}");
+            let is_up = cartridge.irq_line();
+            assert_eq!(is_up, up_at.contains(&clock), "{mode} {clock}");
+        }
     }
-    for _ in 0..10 {
-        assert_eq!(Ok(cartridge.irq()), board.clock());
-    }
-    assert!(kept(cartridge.board()) == kept(&board));
-    assert_eq!(cartridge.refusal(), None);
+}
+
+/// A cartridge on the bus whose line is up.
+fn with_line_up<I: AsRef<[u8]>>(board: Board<I>) -> BusBoard<I> {
+    let mut cartridge = BusBoard::new(board);
+    cartridge.write8(0, 0xE001);
+    assert!(cartridge.irq() && cartridge.irq_line());
+    cartridge
+}
+
+#[test]
+fn the_line_is_lowered_on_the_bus() {
+    let mut cartridge = with_line_up(load(MMC3, 1, 1, Mode::Board));
+    let up = cartridge.snapshot().unwrap();
+    cartridge.write8(0, 0xE000);
+    assert!(!cartridge.irq_line() && !cartridge.irq());
+
+    cartridge.restore(&up).unwrap();
+    assert!(cartridge.irq_line());
+    cartridge.power_cycle().unwrap();
+    assert!(!cartridge.irq_line());
+}
+
+/// Board mode refuses only a call with an image of another length.
+#[test]
+fn a_run_that_is_over_interrupts_nobody() {
+    let bytes = image(MMC3, 1, 1);
+    let length = bytes.len();
+    let shifting = Shifting::new(bytes);
+    let mut cartridge = with_line_up(Board::load(&shifting, Mode::Board).unwrap());
+    shifting.length.set(length - 1);
+    assert_eq!(cartridge.read8(0x8000), 0);
+    assert_eq!(cartridge.refusal(), Some(Refusal::StateOutOfRange));
+    assert!(!cartridge.irq() && !cartridge.irq_line());
+    assert!(cartridge.board().irq_line(), "the board is as it was");
 }
 
 /// Without PRG RAM, as an NES 2.0 image says in board mode, 6000-7FFF reads 0 and takes no byte.

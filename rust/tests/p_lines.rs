@@ -1,4 +1,5 @@
-//! Document 01's P lines through the wrapper, and lines of the same kind for M-100 and M-104 of document 02.
+//! Document 01's P lines through the wrapper, P10's board row as M-101 of document 02 has it, and lines of the same
+//! kind for M-100 and M-104.
 
 mod common;
 
@@ -119,10 +120,10 @@ fn p10_latch_2() {
         (1..=7).filter(|&k| answers[k - 1]).collect()
     };
     assert_eq!(yes_at(Mode::House), [4, 7]);
-    assert_eq!(yes_at(Mode::Board), [3, 6]);
+    assert_eq!(yes_at(Mode::Board), [3, 4, 5, 6, 7]);
 }
 
-/// Clock k answers yes exactly when k is 2 or more and n + 1 divides k - 1; in board mode, divides k.
+/// Clock k answers yes exactly when k is 2 or more and n + 1 divides k - 1; in board mode, from clock n + 1 onward.
 #[test]
 fn the_clock_rules_for_every_latch() {
     for latch in 0..=255 {
@@ -131,7 +132,7 @@ fn the_clock_rules_for_every_latch() {
         let board = clocks(latch, 600, Mode::Board);
         for k in 1..=600 {
             assert_eq!(house[k - 1], k >= 2 && (k - 1) % period == 0, "{latch} {k}");
-            assert_eq!(board[k - 1], k % period == 0, "{latch} {k}");
+            assert_eq!(board[k - 1], k >= period, "{latch} {k}");
         }
     }
 }

@@ -2,12 +2,10 @@
 
 mod common;
 
-use std::cell::Cell;
-
 use biekkarul::{Board, Mirroring, Mode, Refusal, Registers, RAM_LENGTH};
 use common::{
-    image, kept, load, marked, serial, Numbers, BOTH_MODES, CNROM, MMC1, MMC3, NO_RAM, NROM, UXROM,
-    VERTICAL,
+    image, kept, load, marked, serial, Numbers, Shifting, BOTH_MODES, CNROM, MMC1, MMC3, NO_RAM,
+    NROM, UXROM, VERTICAL,
 };
 
 #[test]
@@ -64,26 +62,17 @@ fn the_screens_go_back() {
     }
 }
 
-/// Bytes of which a part can be taken away while the board has them.
-struct Shifting(Vec<u8>, Cell<usize>);
-
-impl AsRef<[u8]> for Shifting {
-    fn as_ref(&self) -> &[u8] {
-        &self.0[..self.1.get()]
-    }
-}
-
 #[test]
 fn an_image_that_is_gone_is_refused_and_nothing_moves() {
     let bytes = image(MMC3, 2, 0);
     let length = bytes.len();
-    let shifting = Shifting(bytes, Cell::new(length));
+    let shifting = Shifting::new(bytes);
     let mut board = Board::load(&shifting, Mode::House).unwrap();
     board.write(0xA000, 0).unwrap();
     board.write(0x6000, 1).unwrap();
     board.chr_ram_mut()[5] = 6;
     let before = kept(&board);
-    shifting.1.set(length - 1);
+    shifting.length.set(length - 1);
     assert_eq!(board.power_cycle(), Err(Refusal::ImageTooShort));
     assert!(kept(&board) == before);
     assert_eq!(board.screens(), Mirroring::Vertical);
@@ -147,22 +136,22 @@ fn registers_of_each_board() {
         mmc3.write(0x8000, register).unwrap();
         mmc3.write(0x8001, 2 + 4 * register).unwrap();
     }
-    for (address, value) in [(0x8000, 0x85), (0xC000, 9), (0xC001, 0)] {
+    for (address, value) in [(0x8000, 0x85), (0xC001, 0), (0xE001, 0)] {
         mmc3.write(address, value).unwrap();
     }
+    mmc3.clock().unwrap(); // latch 0 raises the line
+    mmc3.write(0xC000, 9).unwrap();
     mmc3.clock().unwrap();
-    for (address, value) in [(0xC000, 8), (0xE001, 0)] {
-        mmc3.write(address, value).unwrap();
-    }
+    mmc3.write(0xC000, 8).unwrap();
     assert_eq!(
         format!("{:?}", mmc3.registers()),
         "Mmc3(Mmc3Registers { banks: [2, 6, 10, 14, 18, 22, 26, 30], select: 5, prg_mode: 0, \
-         chr_mode: 1, latch: 8, counter: 9, irq_enabled: true, reload: false })"
+         chr_mode: 1, latch: 8, counter: 9, irq_enabled: true, reload: false, irq_line: true })"
     );
     mmc3.write(0xE000, 0).unwrap();
     mmc3.write(0xC001, 0).unwrap();
     match mmc3.registers() {
-        Registers::Mmc3(mmc3) => assert!(!mmc3.irq_enabled && mmc3.reload),
+        Registers::Mmc3(mmc3) => assert!(!mmc3.irq_enabled && mmc3.reload && !mmc3.irq_line),
         others => panic!("{others:?}"),
     }
 }

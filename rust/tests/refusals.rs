@@ -2,11 +2,10 @@
 
 mod common;
 
-use std::cell::Cell;
 use std::sync::Arc;
 
 use biekkarul::{Board, Mirroring, Mode, Refusal};
-use common::{data, image, kept, load, marked, BOTH_MODES, NO_RAM, PRG_BLOCK, RAM_8K};
+use common::{data, image, kept, load, marked, Shifting, BOTH_MODES, NO_RAM, PRG_BLOCK, RAM_8K};
 use common::{CNROM, MMC1, MMC3, NROM, UXROM};
 
 /// Gives both RAMs and some registers bytes that a slip would show in.
@@ -246,26 +245,12 @@ fn an_image_is_owned_lent_or_shared() {
     assert_eq!(owned.into_image(), bytes);
 }
 
-/// Bytes that change their length while the board has them.
-struct Shifting {
-    bytes: Vec<u8>,
-    length: Cell<usize>,
-}
-
-impl AsRef<[u8]> for Shifting {
-    fn as_ref(&self) -> &[u8] {
-        &self.bytes[..self.length.get()]
-    }
-}
-
 #[test]
 fn an_image_of_another_length_is_refused() {
     let mut bytes = image(UXROM, 3, 0);
     bytes[4] = 2;
-    let shifting = Shifting {
-        bytes,
-        length: Cell::new(16 + 2 * PRG_BLOCK),
-    };
+    let shifting = Shifting::new(bytes);
+    shifting.length.set(16 + 2 * PRG_BLOCK);
     let mut board = Board::load(&shifting, Mode::House).unwrap();
     assert_eq!(board.read(0x8000), Ok(data(0)));
     for length in [0, 16, 16 + 2 * PRG_BLOCK - 1, 16 + 3 * PRG_BLOCK] {

@@ -1,17 +1,20 @@
-//! Random headers and histories through the wrapper, held against a second reading of document 01, of M-100
-//! and of M-104 that was written apart from the library: trials/model.h, in C, as the program trials/play.c.
+//! Random headers and histories through the wrapper, held against a second reading of document 01 and of M-100,
+//! M-101 and M-104 that was written apart from the library: trials/model.h, in C, as the program trials/play.c.
 //! Board mode has no other engine to be compared with.
 
 mod common;
 
 use biekkarul::{Board, Mode};
-use common::reading::{expected, history, make, said};
+use common::reading::{byte, expected, history, make, said, Call, CLOCK, WRITE};
 use common::{image, marked, Numbers, BATTERY_RAM_8K, BOTH_MODES, MARK, NO_RAM, RAM_8K};
 use common::{CHR_BLOCK, CNROM, HEADER, MMC1, MMC3, NROM, PRG_BLOCK, UXROM, VERTICAL};
 
 fn play(bytes: &[u8], mode: Mode, numbers: &mut Numbers, count: usize) {
-    let calls = history(numbers, count);
-    let expected = expected(bytes, mode, &calls);
+    play_calls(bytes, mode, &history(numbers, count));
+}
+
+fn play_calls(bytes: &[u8], mode: Mode, calls: &[Call]) {
+    let expected = expected(bytes, mode, calls);
     let mut board = Board::load(bytes, mode).unwrap();
     let name = format!("header {:02X?}, {mode:?}", &bytes[..HEADER]);
     for (place, (&call, wanted)) in calls.iter().zip(expected.answers).enumerate() {
@@ -133,6 +136,28 @@ fn longer_counts() {
         for byte10 in [NO_RAM, RAM_8K] {
             let bytes = marked(mapper, prg, chr, byte10);
             play(&bytes, Mode::Board, &mut numbers, 2_000);
+        }
+    }
+}
+
+/// Clocks mostly, and writes to MMC3's interrupt registers, with a latch that is soon counted down.
+fn interrupt_call(numbers: &mut Numbers) -> Call {
+    match numbers.next() % 16 {
+        0 => [WRITE, 0xC0, 0x00, byte(numbers) & 0x07],
+        1 => [WRITE, 0xDF, 0xFF, 0],
+        2 => [WRITE, 0xE0, 0x00, 0],
+        3 | 4 => [WRITE, 0xFF, 0xFF, 0],
+        _ => [CLOCK, 0, 0, 0],
+    }
+}
+
+#[test]
+fn irqs_and_the_line() {
+    let mut numbers = Numbers(7);
+    for mode in BOTH_MODES {
+        for _ in 0..20 {
+            let calls: Vec<Call> = (0..2_000).map(|_| interrupt_call(&mut numbers)).collect();
+            play_calls(&image(MMC3, 1, 1), mode, &calls);
         }
     }
 }

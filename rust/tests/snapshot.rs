@@ -235,6 +235,7 @@ fn a_state_that_no_board_could_have() {
         (NOTICE, b'-'),     // no letter of a notice
         (ZERO, 1),          // nothing is kept here
         (STATE + 24, 1),    // an odd R0
+        (STATE + 34, 0x80), // a line that is up in house mode
         (STATE + 39, 0x80), // above the last digit
     ] {
         let mut bytes = good.clone();
@@ -396,7 +397,11 @@ fn an_image_that_is_refused() {
 #[test]
 fn registers_at_their_ends() {
     let board = load(MMC3, 2, 1, Mode::Board);
-    for (digit, value) in [(Digit::Mmc3R0, 254), (Digit::Mmc3Counter, 255)] {
+    for (digit, value) in [
+        (Digit::Mmc3R0, 254),
+        (Digit::Mmc3Counter, 255),
+        (Digit::Mmc3IrqLine, 1),
+    ] {
         let state = packed(&with(board.digits(), digit, value));
         let ram = [0xFF; RAM_LENGTH];
         let at_end = Board::from_parts(board.image(), Mode::Board, &state, &ram, &ram).unwrap();

@@ -62,13 +62,17 @@ fn image() -> Vec<u8> {
 }
 
 fn trace() -> Vec<u8> {
+    trace_of(0, &EVENTS)
+}
+
+fn trace_of(mode: u8, events: &[[u8; 4]]) -> Vec<u8> {
     let image = image();
     let mut trace = vec![1];
     trace.extend((image.len() as u32).to_be_bytes());
-    trace.push(0);
+    trace.push(mode);
     trace.extend(image);
-    trace.extend((EVENTS.len() as u16).to_be_bytes());
-    trace.extend(EVENTS.concat());
+    trace.extend((events.len() as u16).to_be_bytes());
+    trace.extend(events.concat());
     trace
 }
 
@@ -128,11 +132,11 @@ const STATE_AT_THE_END: [u8; 40] = [
 ];
 
 /// In board mode the same events give other answers: the reload clock counts, the disabling write is
-/// taken, a notice is compared with the current mirroring, and bank 8 of 8 is bank 0.
+/// taken, so that the counter's 0 at event 12 does not raise the line, a notice is compared with the current
+/// mirroring, and bank 8 of 8 is bank 0.
 #[test]
 fn in_board_mode() {
-    let mut bytes = trace();
-    bytes[5] = 1;
+    let bytes = trace_of(1, &EVENTS);
     let text = Trace::parse(&bytes).unwrap().play().unwrap();
     let lines: Vec<&str> = text.lines().collect();
     let expected: Vec<&str> = EXPECTED
@@ -146,6 +150,28 @@ fn in_board_mode() {
         })
         .collect();
     assert_eq!(lines, expected);
+}
+
+/// With an enabling write for the disabling one, event 12 raises the line, and it is up at event 13 too, where the
+/// counter takes the latch again.
+#[test]
+fn in_board_mode_with_the_line_up() {
+    let mut events = EVENTS;
+    events[11] = [1, 0xE0, 0x01, 0x00];
+    let bytes = trace_of(1, &events);
+    let trace = Trace::parse(&bytes).unwrap();
+    let text = trace.play().unwrap();
+    let lines: Vec<&str> = text.lines().collect();
+    assert_eq!(lines[11..15], ["10 C 0", "11 W -", "12 C 1", "13 C 1"]);
+
+    let mut board = Board::load(trace.image(), Mode::Board).unwrap();
+    for event in trace.events() {
+        let _ = event.play(&mut board);
+    }
+    let mut wanted = STATE_AT_THE_END;
+    wanted[2] = 0x55; // board mode; the screens are the header's again
+    wanted[34] = 0xA2; // the line is up
+    assert_eq!(board.state(), wanted);
 }
 
 #[test]

@@ -1,8 +1,8 @@
 /*
  * Calls every exported function from C, against include/biekkarul.h, and checks its answers:
- * document 01's P lines, the order of the refusals, NES 2.0, which states are taken and what they are read into. The
- * last two are held against a second reading of docs/ABI.md that stands here, by shifts and masks of its own
- * (get, could_be): every digit at every value, and every state that differs from a loaded one in one or two
+ * document 01's P lines, the order of the refusals, NES 2.0, MMC3's line, which states are taken and what they are
+ * read into. The last two are held against a second reading of docs/ABI.md that stands here, by shifts and masks of
+ * its own (get, could_be): every digit at every value, and every state that differs from a loaded one in one or two
  * bits. Whatever is refused must leave every buffer as it was.
  */
 #include "biekkarul.h"
@@ -213,7 +213,7 @@ static unsigned owner_of(int name) {
     if (name == UXROM_BANK) return UXROM;
     if (name == CNROM_BANK) return CNROM;
     if (name >= SERIAL_COUNT && name <= PRG1) return MMC1;
-    if (name >= R0 && name <= RELOAD) return MMC3;
+    if (name >= R0 && name <= IRQ_LINE) return MMC3;
     return MAPPERS;
 }
 
@@ -228,11 +228,18 @@ static int others_could_be(const uint8_t *s) {
     return 1;
 }
 
+static int banks_could_be(const uint8_t *s) {
+    return get(s, R0) % 2 == 0 && get(s, R1) % 2 == 0 && get(s, R6) <= 63 && get(s, R7) <= 63;
+}
+
+/* House mode has MMC3's line always low; board mode has it at either level, whatever the other digits are. */
+static int line_could_be(const uint8_t *s) { return get(s, IRQ_LINE) <= (get(s, MODE) == BIEKKARUL_BOARD); }
+
 static int board_could_be(const uint8_t *s) {
     uint64_t count = get(s, SERIAL_COUNT);
     switch (get(s, MAPPER)) {
     case MMC1: return count <= 4 && get(s, SERIAL_VALUE) % (1u << (5 - count)) == 0;
-    case MMC3: return get(s, R0) % 2 == 0 && get(s, R1) % 2 == 0 && get(s, R6) <= 63 && get(s, R7) <= 63;
+    case MMC3: return banks_could_be(s) && line_could_be(s);
     default: return 1;
     }
 }
@@ -254,6 +261,14 @@ static void check_reading(const char *what) {
     expect("nothing past the digits", numbers[BIEKKARUL_DIGITS], NO_NUMBER);
 }
 
+/* What a clock of MMC3 in board mode did to the state in before: it answers the line, which was up or is raised now. */
+static void check_level(unsigned answer) {
+    const int was_up = get(before.state, IRQ_LINE) == 1;
+    const int is_raised = get(now.state, COUNTER) == 0 && get(now.state, IRQ_ENABLED) == 1;
+    expect("the line after a clock", (unsigned)get(now.state, IRQ_LINE), was_up || is_raised);
+    expect("a clock answers the line", answer, (unsigned)get(now.state, IRQ_LINE));
+}
+
 /* The state in now, whatever it is: a clock takes exactly the states that could be. */
 static void check_clock(const char *what) {
     int wanted = could_be(now.state);
@@ -264,6 +279,7 @@ static void check_clock(const char *what) {
         expect(what, answer <= 1, 1);
         expect("a state after a clock", (unsigned)could_be(now.state), 1);
         if (get(before.state, MAPPER) != MMC3) expect_untouched("a clock of another board");
+        else if (get(before.state, MODE) == BIEKKARUL_BOARD) check_level(answer);
     } else {
         expect(what, answer, REFUSED(BIEKKARUL_STATE_OUT_OF_RANGE));
         expect_untouched("a refused clock");
@@ -635,13 +651,18 @@ static void check_p7_and_p8(void) {
     expect("P8, PRG 0", (unsigned)get(now.state, PRG1), 0);
 }
 
-/* Bit k - 1 of the answer is clock k's. */
-static unsigned clocks(unsigned latch, unsigned count, unsigned mode) {
-    unsigned k, yes = 0;
+/* MMC3 with this latch, the reload mark and IRQ enabled. */
+static void arm(unsigned latch, unsigned mode) {
     start(MMC3 * 16, 1, 1, mode);
     expect("latch", write_at(0xC000, latch), 0);
     expect("reload", write_at(0xC001, 0), 0);
     expect("enable", write_at(0xE001, 0), 0);
+}
+
+/* Bit k - 1 of the answer is clock k's. */
+static unsigned clocks(unsigned latch, unsigned count, unsigned mode) {
+    unsigned k, yes = 0;
+    arm(latch, mode);
     for (k = 0; k < count; k++) yes |= clock_once() << k;
     return yes;
 }
@@ -650,7 +671,7 @@ static void check_p9_to_p12(void) {
     expect("P9", clocks(0, 3, BIEKKARUL_HOUSE), 0x6);
     expect("P9, board", clocks(0, 3, BIEKKARUL_BOARD), 0x7);
     expect("P10", clocks(2, 7, BIEKKARUL_HOUSE), 0x48);
-    expect("P10, board", clocks(2, 7, BIEKKARUL_BOARD), 0x24);
+    expect("P10, board", clocks(2, 7, BIEKKARUL_BOARD), 0x7C);
     start(UXROM * 16, 2, 0, BIEKKARUL_HOUSE);
     write_at(0x8000, 2);
     expect("P11", read_at(0x8000), REFUSED(11));
@@ -661,6 +682,76 @@ static void check_p9_to_p12(void) {
     expect("P12", read_at(0xBFFF), REFUSED(13));
     start(CNROM * 16, 1, 1, BIEKKARUL_BOARD);
     expect("P12, board", read_at(0xBFFF), data_at(16383));
+}
+
+/* MMC3's line (M-101). */
+
+static unsigned line(void) { return (unsigned)get(now.state, IRQ_LINE); }
+
+/* "With the line low at the start, latch n and no writes after reload and enable, it is up from clock n + 1 onward". */
+static void check_every_latch(void) {
+    unsigned latch, k;
+    for (latch = 0; latch < 256; latch++) {
+        arm(latch, BIEKKARUL_BOARD);
+        for (k = 1; k < 2 * latch + 5; k++) {
+            expect("the level at a clock", clock_once(), k >= latch + 1);
+            expect("the line after it", line(), k >= latch + 1);
+        }
+    }
+}
+
+/* The line, raised by the first clock, is up until an even write to this address of E000-FFFF. */
+static void check_acknowledge(unsigned even) {
+    static const unsigned others[] = {0x0000, 0x6000, 0x8000, 0x9FFF, 0xA000, 0xBFFF, 0xC000, 0xDFFF, 0xE001, 0xFFFF};
+    unsigned i;
+    arm(0, BIEKKARUL_BOARD);
+    expect("raised", clock_once(), 1);
+    for (i = 0; i < sizeof others / sizeof *others; i++) {
+        read_at(others[i]);
+        write_at(others[i], 0);
+        expect("a read and a write leave the line", line(), 1);
+    }
+    expect("a read leaves the line", read_at(even) < 256 && line(), 1);
+    expect("acknowledged", write_at(even, 0xFF), 0);
+    expect("lowered", line(), 0);
+    expect("and disabled", (unsigned)get(now.state, IRQ_ENABLED), 0);
+    expect("a disabled unit raises nothing", clock_once(), 0);
+    expect("enabled", write_at(even + 1, 0xFF), 0);
+    expect("which raises nothing", line(), 0);
+    expect("raised again", clock_once(), 1);
+}
+
+/* No run of calls leaves the line up while IRQ is disabled, but an owner's state may say it. */
+static void check_up_while_disabled(void) {
+    start(MMC3 * 16, 1, 1, BIEKKARUL_BOARD);
+    set(now.state, IRQ_LINE, 1);
+    expect("up while disabled", clock_once(), 1);
+    expect("enabled", write_at(0xE001, 0), 0);
+    expect("up all the same", line(), 1);
+    set(now.state, IRQ_ENABLED, 0);
+    expect("acknowledged while disabled", write_at(0xE000, 0), 0);
+    expect("low while disabled", clock_once(), 0);
+    set(now.state, IRQ_LINE, 1);
+    expect("a load", load(BIEKKARUL_BOARD), 0);
+    expect("low at load", line(), 0);
+}
+
+/* House mode says yes at single clocks, and its line is low. */
+static void check_house_line(void) {
+    unsigned k;
+    arm(1, BIEKKARUL_HOUSE);
+    for (k = 1; k < 12; k++) {
+        expect("a house clock", clock_once(), k >= 2 && (k - 1) % 2 == 0);
+        expect("the line of house mode", line(), 0);
+    }
+}
+
+static void check_line(void) {
+    check_every_latch();
+    check_acknowledge(0xE000);
+    check_acknowledge(0xFFFE);
+    check_up_while_disabled();
+    check_house_line();
 }
 
 static void check_house_refusals(void) {
@@ -730,6 +821,7 @@ int main(void) {
     check_p1_to_p6();
     check_p7_and_p8();
     check_p9_to_p12();
+    check_line();
     check_house_refusals();
     check_notices();
     check_states();

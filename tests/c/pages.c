@@ -337,6 +337,24 @@ static void check_prg_ram_pages(void) {
     }
 }
 
+/* MMC3's line in board mode (M-101): no page moves where it is raised, where it stays up and where it is acknowledged. */
+static void check_line(void) {
+    static const unsigned leave_it[4] = {0xC000, 0xC001, 0xA000, 0xE001};
+    unsigned i;
+    int moved;
+    load(MMC3, BIEKKARUL_BOARD, 2, 4);
+    check_write(0xE001, 0);
+    check_clock();
+    for (i = 0; i < 4; i++) {
+        moved = check_write(leave_it[i], 9);
+        check_clock();
+        expect("the line is up, and no page has moved", model.line == 1 && moved == 0, 1);
+    }
+    moved = check_write(0xFFFE, 9);
+    check_clock();
+    expect("the line is low, and no page has moved", model.line == 0 && moved == 0, 1);
+}
+
 /* Room for more numbers than there are pages. */
 #define ROOM 330u
 static uint32_t reads[ROOM], writes[ROOM], held[ROOM];
@@ -493,6 +511,7 @@ int main(void) {
     check_boards();
     check_prg_ram_pages();
     check_marked_boards();
+    check_line();
     printf("pages: %lu checks, %lu failed\n", checks, failures);
     return failures != 0;
 }

@@ -62,6 +62,14 @@ static unsigned power_cycle(void) {
     return biekkarul_power_cycle(now.state, sizeof now.state, image, sizeof image, now.chr_ram, sizeof now.chr_ram);
 }
 
+static unsigned clock_once(void) { return biekkarul_clock(now.state, sizeof now.state); }
+
+static unsigned line(void) {
+    uint64_t digits[BIEKKARUL_DIGITS];
+    expect("a state", biekkarul_digits(now.state, sizeof now.state, digits, BIEKKARUL_DIGITS), 0);
+    return (unsigned)digits[BIEKKARUL_DIGIT_MMC3_IRQ_LINE];
+}
+
 /*
  * Moved registers, a saved byte and a drawn one; then off and on. The drawn one is put there by hand, since house
  * MMC3 writes to no CHR RAM.
@@ -87,6 +95,19 @@ static void check_cycle(unsigned mapper, uint8_t mode) {
     expect("PRG RAM kept", memcmp(now.prg_ram, before.prg_ram, sizeof now.prg_ram) != 0, 0);
     expect("CHR RAM cleared", memcmp(now.chr_ram, loaded.chr_ram, sizeof now.chr_ram) != 0, 0);
     expect("the header's mirroring again", mirroring(), BIEKKARUL_HORIZONTAL);
+}
+
+/* A power cycle lowers MMC3's line, which otherwise stays up until it is acknowledged. */
+static void check_line_falls(void) {
+    load(4, BIEKKARUL_BOARD);
+    expect("the line at load", line(), 0);
+    put(0xC001, 0);
+    put(0xE001, 0);
+    expect("the line is raised", clock_once(), 1);
+    expect("the line is up", line(), 1);
+    expect("the power cycle", power_cycle(), 0);
+    expect("the line is low", line(), 0);
+    expect("and stays low", clock_once(), 0);
 }
 
 /* In house mode a return to the header's mirroring gives no notice, so the screens stay turned; on a board they turn. */
@@ -127,6 +148,7 @@ int main(void) {
     check_cycle(1, BIEKKARUL_BOARD);
     check_cycle(4, BIEKKARUL_HOUSE);
     check_cycle(4, BIEKKARUL_BOARD);
+    check_line_falls();
     check_turned_back(BIEKKARUL_HOUSE, BIEKKARUL_LOWER);
     check_turned_back(BIEKKARUL_BOARD, BIEKKARUL_HORIZONTAL);
     check_refusals();

@@ -33,7 +33,7 @@ mirroringFits b = screensFit (b .cart .mode) (b .cart .mapper) (b .cart .mirrori
 
 -- refusal 10: "a state field is out of its range"
 unfoldable pub inRange : Board → Bool
-inRange b = couldLoad (b .cart) && fits (b .cart .mapper) (b .registers) && mirroringFits b
+inRange b = couldLoad (b .cart) && fits (b .cart .mapper) (b .cart .mode) (b .registers) && mirroringFits b
 
 -- refusal 10: "or (read, write) the image length is not the one loaded"
 unfoldable pub isLoaded : Board → ℕ → Bool

@@ -51,12 +51,12 @@ unfoldable pub partFits : MapperType → MapperType → Bool → Bool → Bool
 partFits k owner inRange atStart = cond (isMapper k owner) inRange atStart
 
 -- every part of the registers is in its range, or at its start
-unfoldable pub fits : MapperType → Registers → Bool
-fits k r =
+unfoldable pub fits : MapperType → Mode → Registers → Bool
+fits k mode r =
     partFits k Uxrom true (uxrom.isStart (r .uxrom))
     && partFits k Cnrom (cnrom.fits (r .cnrom)) (cnrom.isStart (r .cnrom))
     && partFits k Mmc1 (mmc1.fits (r .mmc1)) (mmc1.isUnused (r .mmc1))
-    && partFits k Mmc3 (mmc3.fits (r .mmc3)) (mmc3.isStart (r .mmc3))
+    && partFits k Mmc3 (mmc3.fits mode (r .mmc3)) (mmc3.isStart (r .mmc3))
 
 -- the registers, and what is asked of the screens
 abbrev pub asking : Registers → Mirrors → Moved
@@ -70,7 +70,7 @@ moved Uxrom mode r v a = asking (withUxrom r (uxrom.written (r .uxrom) v a)) AsB
 moved Cnrom mode r v a = asking (withCnrom r (cnrom.written (r .cnrom) v a)) AsBefore
 moved Mmc3 mode r v a = let w = mmc3-write.written (r .mmc3) v a in asking (withMmc3 r (w .mmc3)) (w .mirrors)
 
--- the registers after a clock of MMC3, whose unit moves and answers
+-- the registers after a clock of MMC3, whose unit and line move
 abbrev pub mmc3Ticked : Mode → Registers → Ticked
 mmc3Ticked mode r = let t = mmc3-clock.clocked mode (r .mmc3) in record { registers = withMmc3 r (t .mmc3); yes = t .answer }
 

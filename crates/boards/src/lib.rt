@@ -129,8 +129,8 @@ impl Registers {
     }
 
     // Each part is in its range where it is this board's, else at its start.
-    pub fn fits(self, mapper: MapperType) -> bool
-        ensures { λ r. ⌜ r ≡ fits mapper self ⌝ }
+    pub fn fits(self, mapper: MapperType, mode: Mode) -> bool
+        ensures { λ r. ⌜ r ≡ fits mapper mode self ⌝ }
     {
         let uxrom = self.uxrom;
         let cnrom = self.cnrom;
@@ -139,7 +139,7 @@ impl Registers {
         part_fits(mapper, MapperType::Uxrom, true, uxrom.is_start())
             & part_fits(mapper, MapperType::Cnrom, cnrom.fits(), cnrom.is_start())
             & part_fits(mapper, MapperType::Mmc1, mmc1.fits(), mmc1.is_unused())
-            & part_fits(mapper, MapperType::Mmc3, mmc3.fits(), mmc3.is_start())
+            & part_fits(mapper, MapperType::Mmc3, mmc3.fits(mode), mmc3.is_start())
     }
 
     fn asking(self, mirrors: Mirrors) -> Moved
@@ -353,9 +353,10 @@ impl Board {
     {
         let cart = self.cart;
         let mapper = cart.mapper;
+        let mode = cart.mode;
         let registers = self.registers;
         let now = self.mirroring;
-        cart.could_load() & registers.fits(mapper) & screens_fit(cart, now)
+        cart.could_load() & registers.fits(mapper, mode) & screens_fit(cart, now)
     }
 
     fn is_loaded(self, length: usize) -> bool

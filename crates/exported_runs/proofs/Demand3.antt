@@ -22,16 +22,17 @@ use Rattle.boards.specs.declared.LoadAnswer.the-variants.{Accepted}
 use Rattle.laws.specs.Calls as boards
 use Rattle.laws.specs.Calls.{LentWrite, loadWith}
 use Rattle.laws.specs.Demand3 as demand
+use Rattle.laws.specs.Clocks.{lineUp}
 use Rattle.laws.specs.Loads.{moves}
 use Rattle.laws.specs.SettlesMmc1 as mmc1
 use Rattle.laws.specs.SettlesMmc3 as mmc3
 use Rattle.laws.specs.SettlesMmc3.{Arming}
-use Rattle.laws.proofs.Demand3.{mmc1-histories-settle, mmc1-histories-join, mmc3-histories-settle}
+use Rattle.laws.proofs.Demand3.{mmc1-histories-settle, mmc1-histories-join, mmc3-house-histories-settle, mmc3-board-histories-settle}
 use Rattle.exports.specs.Numbers.{clockNumber}
 use Rattle.exports.specs.Bytes.{boardIn, encoded}
 use Rattle.exported_runs.specs.Holds.{Holds}
 use Rattle.exported_runs.specs.Runs.{stateAfter, numbers, played, ended}
-use Rattle.exported_runs.specs.Demand3.{LentImage, History, reached, wrote, IsAccepted, Clears, BothCleared, SettlesOnMmc1, armed, Accepts, BothArmed, SettlesOnMmc3}
+use Rattle.exported_runs.specs.Demand3.{LentImage, History, reached, wrote, IsAccepted, Clears, BothCleared, SettlesOnMmc1, armed, Accepts, Acknowledges, SameBytes, BothArmed, BothAcknowledged, SettlesOnMmc3}
 use Rattle.exported_runs.proofs.Runs.{accepted-verdict, after-load}
 use Rattle.exported_runs.proofs.States.{holds-it, next-holds, run-holds, clocks-of, refused-of, accepted-of}
 
@@ -139,43 +140,63 @@ module _ {s : List ℕ} {b : Board} (h : Holds s b) (w : Arming) (a : Accepts s 
         enable = accepted-of reloaded (w .enable .lent) (w .enable .address) (w .enable .byte) (a .enable .no-refusal);
       }
 
--- MMC3: two lent states of one image and mode, whatever their histories, that accept the same latch, reload and enable, get a clock and then the same calls
-pub exported-mmc3-settles : {mode : ℕ} {image : List ℕ} (x y : History mode image) (w u : Arming) (cs ds : List Call) → BothArmed x y w u cs ds
-    → SettlesOnMmc3 (armed (reached x) w) (armed (reached y) u) cs ds
+-- what holds of two boards holds of the states that hold them
+settles-on : {s t : List ℕ} {b d : Board} → Holds s b → Holds t d → (cs ds : List Call) → SameBytes cs ds → mmc3.Settles b d cs ds → SettlesOnMmc3 s t cs ds
 unfolding after next
-exported-mmc3-settles x y w u cs ds h =
+settles-on first second cs ds bytes settled =
     record {
       irq-answers-agree = λ l k.
-          clocks-of first (call l Clock ∷ cs) (tt, h .then-the-same-calls .first-bytes)
+          clocks-of first (call l Clock ∷ cs) (tt, bytes .first-bytes)
           ∙ ap (λ (ns : List ClockAnswer). map clockNumber ns) (settled .irq-answers-agree l k)
-          ∙ sym (clocks-of second (call k Clock ∷ ds) (tt, h .then-the-same-calls .second-bytes));
+          ∙ sym (clocks-of second (call k Clock ∷ ds) (tt, bytes .second-bytes));
+      levels-agree = λ l k.
+          ap lineUp (holds-it (run-holds first (call l Clock ∷ cs) (tt, bytes .first-bytes)))
+          ∙ settled .levels-agree
+          ∙ sym (ap lineUp (holds-it (run-holds second (call k Clock ∷ ds) (tt, bytes .second-bytes))));
       both-refuse-or-neither = λ l k e a v.
-          refused-of (run-holds first (call l Clock ∷ cs) (tt, h .then-the-same-calls .first-bytes)) l a v
+          refused-of (run-holds first (call l Clock ∷ cs) (tt, bytes .first-bytes)) l a v
           ∙ ap not (settled .both-refuse-or-neither l k e a)
-          ∙ sym (refused-of (run-holds second (call k Clock ∷ ds) (tt, h .then-the-same-calls .second-bytes)) k a v);
+          ∙ sym (refused-of (run-holds second (call k Clock ∷ ds) (tt, bytes .second-bytes)) k a v);
     }
-  where
-    start : Holds (reached x) (boards.reached (inRattle x))
-    start = reached-holds (h .of-mmc3) x
 
-    start′ : Holds (reached y) (boards.reached (inRattle y))
-    start′ = reached-holds (h .of-mmc3) y
+-- MMC3, house mode: two lent states of one image, whatever their histories, that accept the same latch, reload and enable, get a clock and then the same calls
+pub exported-mmc3-house-settles : {image : List ℕ} (x y : History 0 image) (w u : Arming) (cs ds : List Call) → BothArmed x y w u cs ds
+    → SettlesOnMmc3 (armed (reached x) w) (armed (reached y) u) cs ds
+unfolding modeOf
+exported-mmc3-house-settles x y w u cs ds h =
+    let start = reached-holds (h .of-mmc3) x in
+    let start′ = reached-holds (h .of-mmc3) y in
+    settles-on (armed-holds start w (h .first-accepts)) (armed-holds start′ u (h .second-accepts)) cs ds (h .then-the-same-calls)
+    (mmc3-house-histories-settle (inRattle x) (inRattle y) w u cs ds
+    (record {
+      image = an-image (h .of-mmc3);
+      first-accepts = arms start w (h .first-accepts);
+      second-accepts = arms start′ u (h .second-accepts);
+      one-latch = h .one-latch;
+      then-the-same-calls = h .then-the-same-calls .same-calls;
+    }))
 
-    both : demand.BothArmed (inRattle x) (inRattle y) w u cs ds
-    both =
-        record {
-          image = an-image (h .of-mmc3);
-          first-accepts = arms start w (h .first-accepts);
-          second-accepts = arms start′ u (h .second-accepts);
-          one-latch = h .one-latch;
-          then-the-same-calls = h .then-the-same-calls .same-calls;
-        }
+acknowledges : {s : List ℕ} {b : Board} → Holds s b → (w : LentWrite) → Acknowledges s w → mmc3.Acknowledges b w
+acknowledges h w a =
+    record { is-acknowledging = a .is-acknowledging; accepted = accepted-of h (w .lent) (w .address) (w .byte) (a .accepted .no-refusal) }
 
-    settled : mmc3.Settles (mmc3.armed (boards.reached (inRattle x)) w) (mmc3.armed (boards.reached (inRattle y)) u) cs ds
-    settled = mmc3-histories-settle (inRattle x) (inRattle y) w u cs ds both
-
-    first : Holds (armed (reached x) w) (mmc3.armed (boards.reached (inRattle x)) w)
-    first = armed-holds start w (h .first-accepts)
-
-    second : Holds (armed (reached y) u) (mmc3.armed (boards.reached (inRattle y)) u)
-    second = armed-holds start′ u (h .second-accepts)
+-- MMC3, board mode: two such states that accept an acknowledging write, then the same latch, reload and enable, get a clock and then the same calls
+pub exported-mmc3-board-settles : {image : List ℕ} (x y : History 1 image) (v t : LentWrite) (w u : Arming) (cs ds : List Call) → BothAcknowledged x y v t w u cs ds
+    → SettlesOnMmc3 (armed (wrote (reached x) v) w) (armed (wrote (reached y) t) u) cs ds
+unfolding modeOf
+exported-mmc3-board-settles x y v t w u cs ds h =
+    let start = reached-holds (h .of-mmc3) x in
+    let start′ = reached-holds (h .of-mmc3) y in
+    let low = wrote-holds start v (h .first-acknowledges .accepted) in
+    let low′ = wrote-holds start′ t (h .second-acknowledges .accepted) in
+    settles-on (armed-holds low w (h .first-accepts)) (armed-holds low′ u (h .second-accepts)) cs ds (h .then-the-same-calls)
+    (mmc3-board-histories-settle (inRattle x) (inRattle y) v t w u cs ds
+    (record {
+      image = an-image (h .of-mmc3);
+      first-acknowledges = acknowledges start v (h .first-acknowledges);
+      second-acknowledges = acknowledges start′ t (h .second-acknowledges);
+      first-accepts = arms low w (h .first-accepts);
+      second-accepts = arms low′ u (h .second-accepts);
+      one-latch = h .one-latch;
+      then-the-same-calls = h .then-the-same-calls .same-calls;
+    }))

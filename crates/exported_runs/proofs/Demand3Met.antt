@@ -35,9 +35,9 @@ use Rattle.exports.specs.Calls.{decision, loading}
 use Rattle.exports.proofs.AsBoards.{loads-as}
 use Rattle.exported_runs.specs.Holds.{Holds}
 use Rattle.exported_runs.specs.Runs.{stateAfter, IsByte, WriteBytes}
-use Rattle.exported_runs.specs.Demand3.{LentImage, History, reached, wrote, IsAccepted, Clears, SameBytes, BothCleared, armed, Accepts, BothArmed, SettlesOnMmc3}
+use Rattle.exported_runs.specs.Demand3.{LentImage, History, reached, wrote, IsAccepted, Clears, SameBytes, BothCleared, armed, Accepts, Acknowledges, BothArmed, BothAcknowledged, SettlesOnMmc3}
 use Rattle.exported_runs.proofs.States.{holds-it, refused-of}
-use Rattle.exported_runs.proofs.Demand3.{reached-holds, wrote-holds, exported-mmc1-settles, exported-mmc3-settles}
+use Rattle.exported_runs.proofs.Demand3.{reached-holds, wrote-holds, exported-mmc1-settles, exported-mmc3-house-settles, exported-mmc3-board-settles}
 
 -- an accepted load in Rattle is one of the exported load, into forty bytes
 abbrev room : List ℕ
@@ -167,24 +167,70 @@ module _ (mode : ℕ) (is-mode : mode < 2) where
   unfolding allWritten written
   game-bytes = write-bytes (on-mmc3.used (modeOf mode) .calls) refl
 
+  pub risen-bytes : WriteBytes (on-mmc3.risen (modeOf mode) .calls)
+  unfolding allWritten written
+  risen-bytes = write-bytes (on-mmc3.risen (modeOf mode) .calls) refl
+
   abbrev pub fresh-mmc3 : History mode images.mmc3
   fresh-mmc3 = exported mode is-mode images.mmc3 (on-mmc3.fresh (modeOf mode)) tt
 
   abbrev pub used-mmc3 : History mode images.mmc3
   used-mmc3 = exported mode is-mode images.mmc3 (on-mmc3.used (modeOf mode)) game-bytes
 
-  pub mmc3-both : BothArmed fresh-mmc3 used-mmc3 (on-mmc3.arming on-mmc3.lent) (on-mmc3.arming on-mmc3.others) (on-mmc3.calls on-mmc3.lent) (on-mmc3.calls on-mmc3.others)
-  unfolding allWritten written
-  mmc3-both =
-      record {
-        of-mmc3 = mmc3-image mode;
-        first-accepts = arms (reached-holds (mmc3-image mode) fresh-mmc3) (on-mmc3.arming on-mmc3.lent) (omega arith, omega arith, omega arith) (on-mmc3.met-fresh (modeOf mode));
-        second-accepts = arms (reached-holds (mmc3-image mode) used-mmc3) (on-mmc3.arming on-mmc3.others) (omega arith, omega arith, omega arith) (on-mmc3.met-used (modeOf mode));
-        one-latch = refl;
-        then-the-same-calls = same-bytes (on-mmc3.calls on-mmc3.lent) (on-mmc3.calls on-mmc3.others) refl refl refl;
-      }
+  abbrev pub risen-mmc3 : History mode images.mmc3
+  risen-mmc3 = exported mode is-mode images.mmc3 (on-mmc3.risen (modeOf mode)) risen-bytes
 
-  -- so they answer the same numbers to clocks
-  pub met-mmc3 : SettlesOnMmc3 (armed (reached fresh-mmc3) (on-mmc3.arming on-mmc3.lent)) (armed (reached used-mmc3) (on-mmc3.arming on-mmc3.others)) (on-mmc3.calls on-mmc3.lent) (on-mmc3.calls on-mmc3.others)
-  met-mmc3 =
-      exported-mmc3-settles fresh-mmc3 used-mmc3 (on-mmc3.arming on-mmc3.lent) (on-mmc3.arming on-mmc3.others) (on-mmc3.calls on-mmc3.lent) (on-mmc3.calls on-mmc3.others) mmc3-both
+pub house : 0 < 2
+house = omega arith
+
+pub board : 1 < 2
+board = omega arith
+
+mmc3-calls : SameBytes (on-mmc3.calls on-mmc3.lent) (on-mmc3.calls on-mmc3.others)
+unfolding allWritten written
+mmc3-calls = same-bytes (on-mmc3.calls on-mmc3.lent) (on-mmc3.calls on-mmc3.others) refl refl refl
+
+pub mmc3-both : BothArmed (fresh-mmc3 0 house) (used-mmc3 0 house) (on-mmc3.arming on-mmc3.lent) (on-mmc3.arming on-mmc3.others) (on-mmc3.calls on-mmc3.lent) (on-mmc3.calls on-mmc3.others)
+unfolding modeOf
+mmc3-both =
+    record {
+      of-mmc3 = mmc3-image 0;
+      first-accepts = arms (reached-holds (mmc3-image 0) (fresh-mmc3 0 house)) (on-mmc3.arming on-mmc3.lent) (omega arith, omega arith, omega arith) on-mmc3.met-fresh;
+      second-accepts = arms (reached-holds (mmc3-image 0) (used-mmc3 0 house)) (on-mmc3.arming on-mmc3.others) (omega arith, omega arith, omega arith) on-mmc3.met-used;
+      one-latch = refl;
+      then-the-same-calls = mmc3-calls;
+    }
+
+acknowledges : {s : List ℕ} {b : Board} → Holds s b → (w : LentWrite) → w .byte < 0x100 → mmc3.Acknowledges b w → Acknowledges s w
+acknowledges h w v a = record { is-acknowledging = a .is-acknowledging; accepted = taken h w v (a .accepted) }
+
+pub mmc3-both-on-board : BothAcknowledged (fresh-mmc3 1 board) (risen-mmc3 1 board) (on-mmc3.acknowledging on-mmc3.lent) (on-mmc3.acknowledging on-mmc3.others)
+    (on-mmc3.arming on-mmc3.lent) (on-mmc3.arming on-mmc3.others) (on-mmc3.calls on-mmc3.lent) (on-mmc3.calls on-mmc3.others)
+unfolding modeOf
+mmc3-both-on-board =
+    let start = reached-holds (mmc3-image 1) (fresh-mmc3 1 board) in
+    let start′ = reached-holds (mmc3-image 1) (risen-mmc3 1 board) in
+    let first = acknowledges start (on-mmc3.acknowledging on-mmc3.lent) (omega arith) on-mmc3.met-fresh-acknowledges in
+    let second = acknowledges start′ (on-mmc3.acknowledging on-mmc3.others) (omega arith) on-mmc3.met-risen-acknowledges in
+    record {
+      of-mmc3 = mmc3-image 1;
+      first-acknowledges = first;
+      second-acknowledges = second;
+      first-accepts = arms (wrote-holds start (on-mmc3.acknowledging on-mmc3.lent) (first .accepted)) (on-mmc3.arming on-mmc3.lent) (omega arith, omega arith, omega arith) on-mmc3.met-fresh-accepts;
+      second-accepts = arms (wrote-holds start′ (on-mmc3.acknowledging on-mmc3.others) (second .accepted)) (on-mmc3.arming on-mmc3.others) (omega arith, omega arith, omega arith) on-mmc3.met-risen-accepts;
+      one-latch = refl;
+      then-the-same-calls = mmc3-calls;
+    }
+
+-- so they answer the same numbers to clocks, in each mode
+pub met-mmc3 : SettlesOnMmc3 (armed (reached (fresh-mmc3 0 house)) (on-mmc3.arming on-mmc3.lent)) (armed (reached (used-mmc3 0 house)) (on-mmc3.arming on-mmc3.others))
+    (on-mmc3.calls on-mmc3.lent) (on-mmc3.calls on-mmc3.others)
+met-mmc3 =
+    exported-mmc3-house-settles (fresh-mmc3 0 house) (used-mmc3 0 house) (on-mmc3.arming on-mmc3.lent) (on-mmc3.arming on-mmc3.others) (on-mmc3.calls on-mmc3.lent)
+    (on-mmc3.calls on-mmc3.others) mmc3-both
+
+pub met-mmc3-on-board : SettlesOnMmc3 (armed (wrote (reached (fresh-mmc3 1 board)) (on-mmc3.acknowledging on-mmc3.lent)) (on-mmc3.arming on-mmc3.lent))
+    (armed (wrote (reached (risen-mmc3 1 board)) (on-mmc3.acknowledging on-mmc3.others)) (on-mmc3.arming on-mmc3.others)) (on-mmc3.calls on-mmc3.lent) (on-mmc3.calls on-mmc3.others)
+met-mmc3-on-board =
+    exported-mmc3-board-settles (fresh-mmc3 1 board) (risen-mmc3 1 board) (on-mmc3.acknowledging on-mmc3.lent) (on-mmc3.acknowledging on-mmc3.others)
+    (on-mmc3.arming on-mmc3.lent) (on-mmc3.arming on-mmc3.others) (on-mmc3.calls on-mmc3.lent) (on-mmc3.calls on-mmc3.others) mmc3-both-on-board

@@ -14,11 +14,12 @@ use Rattle.cartridge.specs.declared.MapperType.{MapperType}
 use Rattle.cartridge.specs.declared.MapperType.the-variants.{Mmc1, Mmc3}
 use Rattle.mmc1.specs.declared.Register.{Register}
 use Rattle.mmc3.specs.Write.{moveOf}
-use Rattle.mmc3.specs.declared.Move.the-variants.{Latch, Reload, Enable}
+use Rattle.mmc3.specs.declared.Move.the-variants.{Latch, Reload, Enable, Disable}
 use Rattle.boards.specs.Runs.{Lent, Call, call}
 use Rattle.boards.specs.declared.Event.{Event}
 use Rattle.boards.specs.declared.Event.the-variants.{Write, Clock}
 use Rattle.laws.specs.Calls.{LentWrite, wipedLent, SameCalls}
+use Rattle.laws.specs.Clocks.{lineUp}
 use Rattle.laws.specs.Loads.{moves}
 use Rattle.laws.specs.SettlesMmc1.{serialWrites, LoadsAt, Settled}
 use Rattle.laws.specs.SettlesMmc3.{Arming}
@@ -108,11 +109,26 @@ pub record Accepts (s : List ℕ) (w : Arming) : Type 0 where
   pub reload : IsAccepted (wrote s (w .latch)) (w .reload)
   pub enable : IsAccepted (wrote (wrote s (w .latch)) (w .reload)) (w .enable)
 
--- MMC3: the two states both accept the same latch, reload and enable; after them come the clock and the same calls
-pub record BothArmed {mode : ℕ} {image : List ℕ} (x y : History mode image) (w u : Arming) (cs ds : List Call) : Type 0 where
-  pub of-mmc3 : LentImage Mmc3 mode image
+-- board mode, M-101: an even write to E000-FFFF, "accepted like the rest"
+pub record Acknowledges (s : List ℕ) (w : LentWrite) : Type 0 where
+  pub is-acknowledging : moveOf (w .byte) (w .address) ≡ Disable
+  pub accepted : IsAccepted s w
+
+-- MMC3, house mode (0): the two states both accept the same latch, reload and enable; after them come the clock and the same calls
+pub record BothArmed {image : List ℕ} (x y : History 0 image) (w u : Arming) (cs ds : List Call) : Type 0 where
+  pub of-mmc3 : LentImage Mmc3 0 image
   pub first-accepts : Accepts (reached x) w
   pub second-accepts : Accepts (reached y) u
+  pub one-latch : w .latch .byte ≡ u .latch .byte
+  pub then-the-same-calls : SameBytes cs ds
+
+-- MMC3, board mode (1): the same, and before it both accept an acknowledging write, v and t
+pub record BothAcknowledged {image : List ℕ} (x y : History 1 image) (v t : LentWrite) (w u : Arming) (cs ds : List Call) : Type 0 where
+  pub of-mmc3 : LentImage Mmc3 1 image
+  pub first-acknowledges : Acknowledges (reached x) v
+  pub second-acknowledges : Acknowledges (reached y) t
+  pub first-accepts : Accepts (wrote (reached x) v) w
+  pub second-accepts : Accepts (wrote (reached y) t) u
   pub one-latch : w .latch .byte ≡ u .latch .byte
   pub then-the-same-calls : SameBytes cs ds
 
@@ -120,6 +136,8 @@ pub record BothArmed {mode : ℕ} {image : List ℕ} (x y : History mode image) 
 pub record SettlesOnMmc3 (s t : List ℕ) (cs ds : List Call) : Type 0 where
   -- "agree on every IRQ answer from that clock on"
   pub irq-answers-agree : (l k : Lent) → clockNumbers s (call l Clock ∷ cs) ≡ clockNumbers t (call k Clock ∷ ds)
+  -- so too on the level that the bytes hold
+  pub levels-agree : (l k : Lent) → lineUp (boardIn (stateAfter s (call l Clock ∷ cs))) ≡ lineUp (boardIn (stateAfter t (call k Clock ∷ ds)))
   -- a later write, so too the acknowledging one (14), is refused on both or on neither
   pub both-refuse-or-neither : (l k : Lent) → wipedLent l ≡ wipedLent k → (a v : ℕ)
       → isRefused (number (stateAfter s (call l Clock ∷ cs)) l (Write a v)) ≡ isRefused (number (stateAfter t (call k Clock ∷ ds)) k (Write a v))

@@ -36,7 +36,7 @@ named w = refl
 
 -- the state judged in its four parts, as the calls do it
 pub four-parts : {v w : Words} {k : MapperType} {x y z u : Bool} → v ≡ w → k ≡ mapperOf (flatDigits cartSizes (v .cart))
-    → x ≡ cartIsKept k (v .cart) (v .length) → y ≡ modeIsKept k (v .cart) → z ≡ banksAreKept k (v .banks) → u ≡ mmc3IsKept k (v .regs) (v .irq)
+    → x ≡ cartIsKept k (v .cart) (v .length) → y ≡ modeIsKept k (v .cart) → z ≡ banksAreKept k (v .banks) → u ≡ mmc3IsKept k (v .cart) (v .regs) (v .irq)
     → (x && y && z && u) ≡ isKept w
 four-parts {v} g e a b c d = (λ i. a i && b i && c i && d i) ∙ ap (λ (m : MapperType). fitsOn m v) e ∙ in-parts v ∙ ap isKept g
 

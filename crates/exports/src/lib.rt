@@ -221,7 +221,7 @@ pub extern "C" fn biekkarul_read<'a>(
     let fits = states::cart_is_kept(mapper, w.cart, w.length)
         & states::mode_is_kept(mapper, w.cart)
         & states::banks_are_kept(mapper, w.banks)
-        & states::mmc3_is_kept(mapper, w.regs, w.irq);
+        & states::mmc3_is_kept(mapper, w.cart, w.regs, w.irq);
     let loaded = (image.len() as u64) == w.length;
     read_number(board.read_if(fits & loaded, image, prg, chr, address))
 }
@@ -243,7 +243,7 @@ fn write_in(
     let fits = states::cart_is_kept(mapper, w.cart, w.length)
         & states::mode_is_kept(mapper, w.cart)
         & states::banks_are_kept(mapper, w.banks)
-        & states::mmc3_is_kept(mapper, w.regs, w.irq);
+        & states::mmc3_is_kept(mapper, w.cart, w.regs, w.irq);
     let loaded = (image.len() as u64) == w.length;
     let written = board.write_if(fits & loaded, prg, chr, address, value);
     let said = written.answer;
@@ -295,7 +295,7 @@ pub extern "C" fn biekkarul_clock(state: &mut [u8]) -> u16
     let fits = states::cart_is_kept(mapper, w.cart, w.length)
         & states::mode_is_kept(mapper, w.cart)
         & states::banks_are_kept(mapper, w.banks)
-        & states::mmc3_is_kept(mapper, w.regs, w.irq);
+        & states::mmc3_is_kept(mapper, w.cart, w.regs, w.irq);
     let clocked = board.clock_if(fits);
     let said = clocked.answer;
     let answer = clock_number(said);
@@ -351,7 +351,7 @@ pub extern "C" fn biekkarul_digits(state: &[u8], digits: &mut [u64]) -> u16
     let fits = states::cart_is_kept(mapper, w.cart, w.length)
         & states::mode_is_kept(mapper, w.cart)
         & states::banks_are_kept(mapper, w.banks)
-        & states::mmc3_is_kept(mapper, w.regs, w.irq);
+        & states::mmc3_is_kept(mapper, w.cart, w.regs, w.irq);
     if fits & (digits.len() == 40) {
         copy_digits(digits, &states::digits_of(w));
         0
@@ -376,7 +376,7 @@ pub extern "C" fn biekkarul_pages(
     let fits = states::cart_is_kept(mapper, w.cart, w.length)
         & states::mode_is_kept(mapper, w.cart)
         & states::banks_are_kept(mapper, w.banks)
-        & states::mmc3_is_kept(mapper, w.regs, w.irq);
+        & states::mmc3_is_kept(mapper, w.cart, w.regs, w.irq);
     pages_number(pages::pages_if(fits, board, first, reads, writes))
 }
 
@@ -428,5 +428,5 @@ pub extern "C" fn biekkarul_header(image: &[u8], fields: &mut [u8]) -> u16
 pub extern "C" fn biekkarul_version() -> u32
     ensures { λ r. ⌜ r ≡ version ⌝ }
 {
-    3
+    4
 }

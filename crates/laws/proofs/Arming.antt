@@ -1,8 +1,8 @@
--- What a clock and an accepted write do to the unit of an MMC3 board, and that latch, reload and enable leave it ready, whatever it was.
+-- What a clock and an accepted write do to an MMC3 board: latch, reload and enable leave its unit ready, whatever it was, and an acknowledging write its line low.
 -- Assumes nothing.
 use Prim.Native.Nat.{ℕ}
 use mathlib.Core.Path.{_≡_, ap, _∙_}
-use mathlib.Core.Bool.{Bool, true, cond}
+use mathlib.Core.Bool.{Bool, true, false, cond}
 use Rattle.cartridge.specs.Mappers.{isMapper}
 use Rattle.cartridge.specs.declared.MapperType.{MapperType}
 use Rattle.cartridge.specs.declared.MapperType.the-variants.{Mmc3}
@@ -10,7 +10,7 @@ use Rattle.mmc3.specs.Clock as mmc3-clock
 use Rattle.mmc3.specs.Write.{moveOf, applied, written}
 use Rattle.mmc3.specs.declared.Mmc3 as mmc3-type
 use Rattle.mmc3.specs.declared.Move.{Move}
-use Rattle.mmc3.specs.declared.Move.the-variants.{Latch, Reload, Enable}
+use Rattle.mmc3.specs.declared.Move.the-variants.{Latch, Reload, Enable, Disable}
 use Rattle.boards.specs.Range.{inRange}
 use Rattle.boards.specs.Registers.{moved, mmc3Ticked, ticked}
 use Rattle.boards.specs.Write.{turned, acceptedWrite, landing}
@@ -19,8 +19,9 @@ use Rattle.boards.specs.Runs.{next}
 use Rattle.boards.specs.declared.Board.{Board}
 use Rattle.boards.specs.declared.Ticked.{Ticked}
 use Rattle.laws.specs.Calls.{OneImage, LentWrite, wrote}
+use Rattle.laws.specs.Clocks.{lineUp}
 use Rattle.laws.specs.Loads.{accepts}
-use Rattle.laws.specs.SettlesMmc3.{Arming, latched, reloaded, armed, Accepts}
+use Rattle.laws.specs.SettlesMmc3.{Arming, latched, reloaded, armed, Accepts, Acknowledges}
 use Rattle.laws.proofs.Accepting.{after-write}
 use Rattle.laws.proofs.Clocks.{ready}
 use Rattle.laws.proofs.OneImage.{wrote-one}
@@ -29,31 +30,39 @@ pub moved-mmc3 : (b : Board) → b .cart .mapper ≡ Mmc3 → (v a : ℕ) → ac
 unfolding acceptedWrite turned moved written
 moved-mmc3 b e v a = ap (λ (k : MapperType). moved k (b .cart .mode) (b .registers) v a .registers .mmc3) e
 
--- a clock of a board in range is one of its unit
+-- a clock of a board in range is MMC3's
 module _ (b : Board) (ok : inRange b ≡ true) (is-mmc3 : b .cart .mapper ≡ Mmc3) where
   ticked-is : ticked (b .cart .mapper) (b .cart .mode) (b .registers) ≡ mmc3Ticked (b .cart .mode) (b .registers)
   unfolding ticked isMapper
   ticked-is = ap (λ (k : MapperType). ticked k (b .cart .mode) (b .registers)) is-mmc3
 
-  pub tick-irq : clock b .board .registers .mmc3 .irq ≡ mmc3-clock.clockIn (b .cart .mode) (b .registers .mmc3 .irq) .irq
-  unfolding clock acceptedClock mmc3-clock.clocked mmc3-clock.withIrq
-  tick-irq = rw ok (ap (λ (t : Ticked). t .registers .mmc3 .irq) ticked-is)
+  pub tick-mmc3 : clock b .board .registers .mmc3 ≡ mmc3-clock.clocked (b .cart .mode) (b .registers .mmc3) .mmc3
+  unfolding clock acceptedClock
+  tick-mmc3 = rw ok (ap (λ (t : Ticked). t .registers .mmc3) ticked-is)
 
-  pub tick-answer : clock b .answer ≡ yesNo (mmc3-clock.clockIn (b .cart .mode) (b .registers .mmc3 .irq) .answer)
-  unfolding clock acceptedClock mmc3-clock.clocked
+  pub tick-answer : clock b .answer ≡ yesNo (mmc3-clock.clocked (b .cart .mode) (b .registers .mmc3) .answer)
+  unfolding clock acceptedClock
   tick-answer = rw ok (ap (λ (t : Ticked). yesNo (t .yes)) ticked-is)
 
 -- an accepted write leaves what its move makes
-accepted-irq : (b : Board) → b .cart .mapper ≡ Mmc3 → (w : LentWrite) (k : Move) → accepts b (w .lent) (w .address) ≡ true → moveOf (w .byte) (w .address) ≡ k
-    → wrote b w .registers .mmc3 .irq ≡ applied k (b .registers .mmc3) .irq
+pub accepted-mmc3 : (b : Board) → b .cart .mapper ≡ Mmc3 → (w : LentWrite) (k : Move) → accepts b (w .lent) (w .address) ≡ true → moveOf (w .byte) (w .address) ≡ k
+    → wrote b w .registers .mmc3 ≡ applied k (b .registers .mmc3)
 unfolding next
-accepted-irq b is-mmc3 w k e f =
+accepted-mmc3 b is-mmc3 w k e f =
     let l = w .lent in
-    ap (λ (x : Board). x .registers .mmc3 .irq) (after-write b (landing b (l .image) (l .prg) (l .chr) (w .address)) (w .byte) (w .address))
-    ∙ ap (λ (t : Bool). cond t (acceptedWrite b (w .byte) (w .address) .board) b .registers .mmc3 .irq) e
-    ∙ ap (λ (m : mmc3-type.Mmc3). m .irq) (moved-mmc3 b is-mmc3 (w .byte) (w .address) ∙ ap (λ (x : Move). applied x (b .registers .mmc3)) f)
+    ap (λ (x : Board). x .registers .mmc3) (after-write b (landing b (l .image) (l .prg) (l .chr) (w .address)) (w .byte) (w .address))
+    ∙ ap (λ (t : Bool). cond t (acceptedWrite b (w .byte) (w .address) .board) b .registers .mmc3) e
+    ∙ moved-mmc3 b is-mmc3 (w .byte) (w .address)
+    ∙ ap (λ (x : Move). applied x (b .registers .mmc3)) f
 
--- the three writes leave such a unit
+-- an acknowledging write leaves the line low and IRQ disabled
+pub acknowledged : (b : Board) → b .cart .mapper ≡ Mmc3 → (w : LentWrite) → Acknowledges b w → (lineUp (wrote b w) ≡ false) × (wrote b w .registers .mmc3 .irq .enabled ≡ false)
+unfolding applied mmc3-clock.withIrq
+acknowledged b is-mmc3 w a =
+    let e = accepted-mmc3 b is-mmc3 w Disable (a .accepted) (a .is-acknowledging) in
+    (ap (λ (m : mmc3-type.Mmc3). m .line) e, ap (λ (m : mmc3-type.Mmc3). m .irq .enabled) e)
+
+-- the three writes leave a unit that is ready, and the line as it was
 module _ {b d : Board} (o : OneImage Mmc3 b d) (w : Arming) where
   latched-one : OneImage Mmc3 (latched b w) d
   latched-one = wrote-one o (w .latch)
@@ -65,18 +74,17 @@ module _ {b d : Board} (o : OneImage Mmc3 b d) (w : Arming) where
   armed-one = wrote-one reloaded-one (w .enable)
 
   module _ (p : Accepts b w) where
-    irq₁ : latched b w .registers .mmc3 .irq ≡ record { enabled = b .registers .mmc3 .irq .enabled; latch = w .latch .byte; counter = b .registers .mmc3 .irq .counter; reload = b .registers .mmc3 .irq .reload }
-    unfolding applied mmc3-clock.withIrq
-    irq₁ = accepted-irq b (o .mapper) (w .latch) (Latch (w .latch .byte)) (p .latch) (p .is-latch)
-
-    irq₂ : reloaded b w .registers .mmc3 .irq ≡ record { enabled = b .registers .mmc3 .irq .enabled; latch = w .latch .byte; counter = b .registers .mmc3 .irq .counter; reload = true }
-    unfolding applied mmc3-clock.withIrq
-    irq₂ =
-        accepted-irq (latched b w) (latched-one .mapper) (w .reload) Reload (p .reload) (p .is-reload)
-        ∙ (λ i. record { enabled = irq₁ i .enabled; latch = irq₁ i .latch; counter = irq₁ i .counter; reload = true })
+    armed-mmc3 : armed b w .registers .mmc3 ≡ applied Enable (applied Reload (applied (Latch (w .latch .byte)) (b .registers .mmc3)))
+    armed-mmc3 =
+        accepted-mmc3 (reloaded b w) (reloaded-one .mapper) (w .enable) Enable (p .enable) (p .is-enable)
+        ∙ ap (applied Enable)
+        (accepted-mmc3 (latched b w) (latched-one .mapper) (w .reload) Reload (p .reload) (p .is-reload)
+        ∙ ap (applied Reload) (accepted-mmc3 b (o .mapper) (w .latch) (Latch (w .latch .byte)) (p .latch) (p .is-latch)))
 
     pub armed-irq : armed b w .registers .mmc3 .irq ≡ ready (w .latch .byte) (b .registers .mmc3 .irq .counter)
     unfolding applied mmc3-clock.withIrq
-    armed-irq =
-        accepted-irq (reloaded b w) (reloaded-one .mapper) (w .enable) Enable (p .enable) (p .is-enable)
-        ∙ (λ i. record { enabled = true; latch = irq₂ i .latch; counter = irq₂ i .counter; reload = irq₂ i .reload })
+    armed-irq = ap (λ (m : mmc3-type.Mmc3). m .irq) armed-mmc3
+
+    pub armed-line : lineUp (armed b w) ≡ lineUp b
+    unfolding applied mmc3-clock.withIrq
+    armed-line = ap (λ (m : mmc3-type.Mmc3). m .line) armed-mmc3

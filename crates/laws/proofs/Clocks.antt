@@ -1,4 +1,4 @@
--- When a run of clocks of one unit answers yes. Both modes move the unit alike, through the latch n, n - 1, .., 0 and round again, so one induction
+-- When a run of clocks of one unit answers yes; in board mode that raises the line. Both modes move the unit alike, through the latch n, n - 1, .., 0 and round again, so one induction
 -- serves both. Assumes nothing.
 use Prim.Native.Nat.{ℕ, zero, suc, _-_, _%_, _+_, _≤_, _<_, _∣_}
 use mathlib.Core.Path.{_≡_, refl, _∙_, sym, ap}
@@ -9,9 +9,11 @@ use native.Mathlib.Numerals.{add-one}
 use native.Mathlib.Omega.{arith}
 use lib.Dec.{eqb}
 use borrow.Author.Tests.{eqb-true, eqb-false}
+use Rattle.rules.proofs.Bools.{either}
 use Rattle.common.specs.declared.Mode.{Mode}
 use Rattle.common.specs.declared.Mode.the-variants.{House, Board}
 use Rattle.mmc3.specs.Clock.{houseClock, nextCounter, boardClock, clockIn}
+use Rattle.mmc3.specs.declared.Clocked.{Clocked}
 use Rattle.mmc3.specs.declared.Irq.{Irq}
 
 -- the unit after k clocks
@@ -45,6 +47,13 @@ moves House u = go (u .reload) (eqb (u .counter) 0) refl refl
     go true z e d = simp e
     go false true e d = simp (e, d)
     go false false e d = simp (e, d)
+
+-- a clock leaves the latch and the enable
+pub clock-keeps : (P : Irq → Type 0) (mode : Mode) (u : Irq) → ((c : ℕ) → P (record { enabled = u .enabled; latch = u .latch; counter = c; reload = false })) → P (clockIn mode u .irq)
+unfolding clockIn houseClock boardClock
+clock-keeps P House u h =
+    either (λ (c : Clocked). P (c .irq)) (u .reload) (h (u .latch)) (either (λ (c : Clocked). P (c .irq)) (eqb (u .counter) 0) (h (u .latch)) (h (u .counter - 1)))
+clock-keeps P Board u h = h (nextCounter u)
 
 wraps : (n j : ℕ) → shown n j ≡ 0 → suc j % suc n ≡ 0
 wraps n j h =
@@ -81,7 +90,7 @@ zero-at n j = (λ e. dvd-iff-mod-eq-zero (suc n) .1 (wraps n j (eqb-true _ _ e))
     go true e d = e
     go false e d = absurd (omega (arith, counts n j (eqb-false _ _ e), dvd-iff-mod-eq-zero (suc n) .0 d))
 
--- a board clock answers yes where the unit after it shows 0
+-- board mode's unit says yes where, after the clock, it shows 0 and is enabled
 after-it : (i : Irq) → boardClock i .answer ≡ (boardClock i .irq .enabled && eqb (boardClock i .irq .counter) 0)
 unfolding boardClock
 after-it i = refl
@@ -114,10 +123,10 @@ module _ (n c : ℕ) where
   unfolding clockIn
   house-first = marked-no n c
 
-  -- board: "After the same three writes clock k answers yes exactly when n + 1 divides k"
-  pub board-clocks : (k : ℕ) → 1 ≤ k → (unitSays Board k (ready n c) ≡ true) ↔ (n + 1 ∣ k)
-  board-clocks zero h = absurd (omega arith)
-  board-clocks (suc k) h =
+  -- board, of the unit: "clock k answers yes exactly when n + 1 divides k"
+  pub board-unit-raises : (k : ℕ) → 1 ≤ k → (unitSays Board k (ready n c) ≡ true) ↔ (n + 1 ∣ k)
+  board-unit-raises zero h = absurd (omega arith)
+  board-unit-raises (suc k) h =
       let e = board-answer k in
       rw (add-one n) (λ a. zero-at n k .0 (sym e ∙ a), λ d. e ∙ zero-at n k .1 d)
 

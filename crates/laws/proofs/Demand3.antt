@@ -1,23 +1,27 @@
--- Any two histories of one image leave boards of one image, and two such boards settle; on an MMC1 board no call moves another board's registers, so those
--- two are then one and the same. Assumes nothing.
+-- Any two histories of one image leave boards of one image, and two such boards settle. Those of MMC3 have their lines low: in house mode always, in board mode after
+-- the acknowledging write. On an MMC1 board no call moves another board's registers, so two MMC1 boards that have settled are one and the same. Assumes nothing.
 use Prim.Native.Nat.{ℕ}
 use mathlib.Core.Path.{_≡_, refl, sym, ap, ap₂, _∙_, subst}
 use mathlib.Core.List.{List, [], _∷_, _++_}
 use Rattle.common.specs.declared.Mode.{Mode}
+use Rattle.common.specs.declared.Mode.the-variants.{House, Board as OnBoard}
 use Rattle.cartridge.specs.declared.Cartridge.{Cartridge}
 use Rattle.cartridge.specs.declared.MapperType.{MapperType}
-use Rattle.cartridge.specs.declared.MapperType.the-variants.{Mmc1}
+use Rattle.cartridge.specs.declared.MapperType.the-variants.{Mmc1, Mmc3}
 use Rattle.mmc1.specs.declared.Mmc1 as mmc1-type
 use Rattle.boards.specs.Registers.{withMmc1}
 use Rattle.boards.specs.Runs.{next, Call, call, after}
 use Rattle.boards.specs.declared.Board.{Board}
 use Rattle.boards.specs.declared.Event.the-variants.{Write}
 use Rattle.laws.specs.Calls.{loadWith, History, reached, OneImage, LentWrite, wrote}
-use Rattle.laws.specs.Demand3.{ImageOf, BothCleared, BothArmed}
+use Rattle.laws.specs.Demand3.{ImageOf, BothCleared, BothArmed, BothAcknowledged}
 use Rattle.laws.specs.SettlesMmc1 as mmc1
 use Rattle.laws.specs.SettlesMmc3 as mmc3
-use Rattle.laws.proofs.Histories.{any-two-histories, one-start}
+use Rattle.laws.proofs.Arming.{acknowledged}
+use Rattle.laws.proofs.Histories.{any-two-histories, mode-of, one-start}
+use Rattle.laws.proofs.Line.{low-in-house-mode}
 use Rattle.laws.proofs.Mmc1Moves.{next-is}
+use Rattle.laws.proofs.OneImage.{swapped, wrote-one}
 use Rattle.laws.proofs.Positions.{after-append}
 use Rattle.laws.proofs.Ranges.{next-keeps-cart, run-keeps-cart}
 use Rattle.laws.proofs.SettlesMmc1.{mmc1-settles}
@@ -32,11 +36,25 @@ pub mmc1-histories-settle : {mode : Mode} {s : List ℕ} (x y : History mode s) 
 mmc1-histories-settle x y w u cs ds h =
     mmc1-settles (reached x) (reached y) (one-image (h .image) x y) w u (h .first-accepts) (h .second-accepts) cs ds (h .then-the-same-calls)
 
--- MMC3: two such boards that accept the same latch, reload and enable, get a clock and then the same calls
-pub mmc3-histories-settle : {mode : Mode} {s : List ℕ} (x y : History mode s) (w u : mmc3.Arming) (cs ds : List Call) → BothArmed x y w u cs ds
+-- MMC3, house mode: two such boards that accept the same latch, reload and enable, get a clock and then the same calls
+pub mmc3-house-histories-settle : {s : List ℕ} (x y : History House s) (w u : mmc3.Arming) (cs ds : List Call) → BothArmed x y w u cs ds
     → mmc3.Settles (mmc3.armed (reached x) w) (mmc3.armed (reached y) u) cs ds
-mmc3-histories-settle x y w u cs ds h =
-    mmc3-settles (reached x) (reached y) (one-image (h .image) x y) w u (h .one-latch) (h .first-accepts) (h .second-accepts) cs ds (h .then-the-same-calls)
+mmc3-house-histories-settle {s} x y w u cs ds h =
+    let o = one-image (h .image) x y in
+    let bytes = h .image .are-bytes in
+    let low-x = low-in-house-mode (reached x) (mode-of House s bytes x) (o .first) in
+    let low-y = low-in-house-mode (reached y) (mode-of House s bytes y) (o .second) in
+    mmc3-settles (reached x) (reached y) o (low-x ∙ sym low-y) w u (h .one-latch) (h .first-accepts) (h .second-accepts) cs ds (h .then-the-same-calls)
+
+-- MMC3, board mode: two such boards that accept an acknowledging write, then the same latch, reload and enable, get a clock and then the same calls
+pub mmc3-board-histories-settle : {s : List ℕ} (x y : History OnBoard s) (v t : LentWrite) (w u : mmc3.Arming) (cs ds : List Call) → BothAcknowledged x y v t w u cs ds
+    → mmc3.Settles (mmc3.armed (wrote (reached x) v) w) (mmc3.armed (wrote (reached y) t) u) cs ds
+mmc3-board-histories-settle x y v t w u cs ds h =
+    let o = one-image (h .image) x y in
+    let low-x = acknowledged (reached x) (o .mapper) v (h .first-acknowledges) .0 in
+    let low-y = acknowledged (reached y) (swapped o .mapper) t (h .second-acknowledges) .0 in
+    mmc3-settles (wrote (reached x) v) (wrote (reached y) t) (swapped (wrote-one (swapped (wrote-one o v)) t)) (low-x ∙ sym low-y) w u (h .one-latch)
+    (h .first-accepts) (h .second-accepts) cs ds (h .then-the-same-calls)
 
 -- on an MMC1 board the registers of the other boards stay
 others-stay : (b : Board) → b .cart .mapper ≡ Mmc1 → (cs : List Call) → after b cs .registers ≡ withMmc1 (b .registers) (after b cs .registers .mmc1)

@@ -49,6 +49,10 @@ module _ (mode : Mode) (s : List ℕ) (bytes : AreBytes s) where
       run-in-range (loadWith mode s (h .prg) (h .chr) .board) (h .calls)
       (loaded-in-range s mode (length (h .prg)) (length (h .chr)) bytes (h .accepted))
 
+  pub mode-of : (h : History mode s) → reached h .cart .mode ≡ mode
+  unfolding cartridgeOf
+  mode-of h = ap (λ (c : Cartridge). c .mode) (cart-of h)
+
   mapper-of : (h : History mode s) → reached h .cart .mapper ≡ mapperType (mapperIn mode (headerOf s))
   unfolding cartridgeOf
   mapper-of h = ap (λ (c : Cartridge). c .mapper) (cart-of h)

@@ -9,10 +9,12 @@ mod Mmc1Moves
 mod Mmc1Answers
 mod Positions
 mod Arming
+mod Deeds
 pub mod PLines
 pub mod Numbers
 pub mod FurtherRows
 pub mod Nes2Rows
+pub mod LineRows
 pub mod Clocks
 pub mod PublicClocks
 pub mod ThreeWrites
@@ -24,12 +26,14 @@ pub mod Useless
 pub mod Choices
 pub mod Loads
 pub mod FiveBits
+pub mod Line
 pub mod Histories
 pub mod SettlesMmc3
 pub mod SettlesMmc1
 pub mod Demand3
 pub mod SettlesMmc1Met
 pub mod SettlesMmc3Met
+pub mod LineMet
 pub mod ControlBit4
 pub mod AsBefore
 pub mod Mark

@@ -1,22 +1,23 @@
--- MMC3's fields stay in range: a data write changes one register and keeps the bits that its range allows. Assumes nothing.
+-- MMC3's fields stay in range: a data write changes one register and keeps the bits that its range allows, and the line is raised in board mode only. Assumes nothing.
 use Prim.Native.Nat.{ℕ, zero, suc, _%_, _≤_, _<_}
 use mathlib.Core.Path.{_≡_, refl, ap, _∙_}
 use mathlib.Core.Logic.{_⊎_, inl, inr, ⊎-elim}
-use mathlib.Core.Bool.{Bool, true, _&&_}
+use mathlib.Core.Bool.{Bool, true, false, _&&_}
 use mathlib.Core.List.{List, [], _∷_}
 use native.Mathlib.Omega.{arith}
 use lib.Dec.{ltb, eqb}
 use lib.ListN.{getD, set}
 use borrow.Author.Tests.{ltb-true, eqb-true, lt-ltb, le-ltb, le-leb, eq-eqb}
-use Rattle.rules.proofs.Bools.{split-3, split-5, either}
+use Rattle.rules.proofs.Bools.{split-3, split-4, either}
 use Rattle.common.specs.Answers.{isHeaders}
 use Rattle.common.specs.declared.Mode.{Mode}
+use Rattle.common.specs.declared.Mode.the-variants.{House, Board}
 use Rattle.common.specs.declared.Mirrors.{Mirrors}
 use Rattle.common.specs.declared.Mirrors.the-variants.{AsBefore, As}
-use Rattle.mmc3.specs.Clock.{withIrq, clocked, clockIn}
+use Rattle.mmc3.specs.Clock.{withIrq, withLine, lineAfter, clocked, clockIn}
 use Rattle.mmc3.specs.Read.{register}
 use Rattle.mmc3.specs.Write.{moveOf, dataBits, applied, screens, mirrorsOf, written}
-use Rattle.mmc3.specs.Range.{fits}
+use Rattle.mmc3.specs.Range.{lineFits, fits}
 use Rattle.mmc3.specs.declared.Irq.{Irq}
 use Rattle.mmc3.specs.declared.Mmc3.{Mmc3}
 use Rattle.mmc3.specs.declared.Move.{Move}
@@ -31,7 +32,7 @@ get-set (y ∷ l) (suc i) x zero = inl refl
 get-set (y ∷ l) (suc i) x (suc k) =
     ⊎-elim {C = (getD (set l i x) k 0 ≡ getD l k 0) ⊎ ((suc k ≡ suc i) × (getD (set l i x) k 0 ≡ x))} (λ e. inl e) (λ e. inr (ap suc (e .0), e .1)) (get-set l i x k)
 
-record Ranged (m : Mmc3) : Type 0 where
+pub record Ranged (mode : Mode) (m : Mmc3) : Type 0 where
   select : m .select < 8
   prgmode : m .prgmode < 2
   chrmode : m .chrmode < 2
@@ -39,27 +40,31 @@ record Ranged (m : Mmc3) : Type 0 where
   r1 : getD (m .regs) 1 0 % 2 ≡ 0
   r6 : getD (m .regs) 6 0 < 64
   r7 : getD (m .regs) 7 0 < 64
+  pub line : lineFits mode (m .line) ≡ true
 
-ranged : (m : Mmc3) → fits m ≡ true → Ranged m
+pub ranged : (mode : Mode) (m : Mmc3) → fits mode m ≡ true → Ranged mode m
 unfolding fits register
-ranged m e =
-    let p = split-5 (ltb (m .select) 8 && ltb (m .prgmode) 2 && ltb (m .chrmode) 2) (eqb (register m 0 % 2) 0) (eqb (register m 1 % 2) 0) (ltb (register m 6) 64) (ltb (register m 7) 64) e in
-    let q = split-3 (ltb (m .select) 8) (ltb (m .prgmode) 2) (ltb (m .chrmode) 2) (p .0) in
+ranged mode m e =
+    let s = split-3 (ltb (m .select) 8 && ltb (m .prgmode) 2 && ltb (m .chrmode) 2)
+    (eqb (register m 0 % 2) 0 && eqb (register m 1 % 2) 0 && ltb (register m 6) 64 && ltb (register m 7) 64) (lineFits mode (m .line)) e in
+    let p = split-4 (eqb (register m 0 % 2) 0) (eqb (register m 1 % 2) 0) (ltb (register m 6) 64) (ltb (register m 7) 64) (s .1) in
+    let q = split-3 (ltb (m .select) 8) (ltb (m .prgmode) 2) (ltb (m .chrmode) 2) (s .0) in
     record {
       select = ltb-true (m .select) 8 (q .0);
       prgmode = ltb-true (m .prgmode) 2 (q .1);
       chrmode = ltb-true (m .chrmode) 2 (q .2);
-      r0 = eqb-true (register m 0 % 2) 0 (p .1);
-      r1 = eqb-true (register m 1 % 2) 0 (p .2);
-      r6 = ltb-true (register m 6) 64 (p .3);
-      r7 = ltb-true (register m 7) 64 (p .4);
+      r0 = eqb-true (register m 0 % 2) 0 (p .0);
+      r1 = eqb-true (register m 1 % 2) 0 (p .1);
+      r6 = ltb-true (register m 6) 64 (p .2);
+      r7 = ltb-true (register m 7) 64 (p .3);
+      line = s .2;
     }
 
-in-fits : (m : Mmc3) → Ranged m → fits m ≡ true
+in-fits : {mode : Mode} (m : Mmc3) → Ranged mode m → fits mode m ≡ true
 unfolding fits register
 in-fits m p =
     rw
-    (lt-ltb _ _ (p .select), lt-ltb _ _ (p .prgmode), lt-ltb _ _ (p .chrmode), eq-eqb _ _ (p .r0), eq-eqb _ _ (p .r1), lt-ltb _ _ (p .r6), lt-ltb _ _ (p .r7))
+    (lt-ltb _ _ (p .select), lt-ltb _ _ (p .prgmode), lt-ltb _ _ (p .chrmode), eq-eqb _ _ (p .r0), eq-eqb _ _ (p .r1), lt-ltb _ _ (p .r6), lt-ltb _ _ (p .r7), p .line)
     refl
 
 kept-even : (s v : ℕ) → s < 2 → dataBits s v % 2 ≡ 0
@@ -70,7 +75,7 @@ kept-six : (s v : ℕ) → 6 ≤ s → dataBits s v < 64
 unfolding dataBits
 kept-six s v h = let g : 2 ≤ s = omega arith in rw (le-ltb s 2 g, le-leb 6 s h) (omega arith)
 
-data-ranged : (m : Mmc3) (v : ℕ) → Ranged m → Ranged (applied (Data v) m)
+data-ranged : {mode : Mode} (m : Mmc3) (v : ℕ) → Ranged mode m → Ranged mode (applied (Data v) m)
 unfolding applied
 data-ranged m v p =
     record {
@@ -81,6 +86,7 @@ data-ranged m v p =
       r1 = even 1 (omega arith) (p .r1);
       r6 = six 6 (omega arith) (p .r6);
       r7 = six 7 (omega arith) (p .r7);
+      line = p .line;
     }
   where
     x : ℕ
@@ -99,35 +105,56 @@ data-ranged m v p =
         (get-set (m .regs) (m .select) x k)
 
 -- no range speaks of the interrupt unit
-with-irq : (m : Mmc3) (i : Irq) → fits (withIrq m i) ≡ fits m
+with-irq : (mode : Mode) (m : Mmc3) (i : Irq) → fits mode (withIrq m i) ≡ fits mode m
 unfolding fits withIrq register
-with-irq m i = refl
+with-irq mode m i = refl
 
-pub clocked-fits : (mode : Mode) (m : Mmc3) → fits m ≡ true → fits (clocked mode m .mmc3) ≡ true
+-- the line alone may be at any level that its mode allows
+with-line : (mode : Mode) (m : Mmc3) (level : Bool) → lineFits mode level ≡ true → fits mode m ≡ true → fits mode (withLine m level) ≡ true
+with-line mode m level l e =
+    let p = ranged mode m e in
+    in-fits (withLine m level)
+    (record { select = p .select; prgmode = p .prgmode; chrmode = p .chrmode; r0 = p .r0; r1 = p .r1; r6 = p .r6; r7 = p .r7; line = l })
+
+-- low in either mode
+pub low-fits : (mode : Mode) → lineFits mode false ≡ true
+unfolding lineFits
+low-fits House = refl
+low-fits Board = refl
+
+-- and what a clock leaves
+line-fits : (mode : Mode) (line raised : Bool) → lineFits mode line ≡ true → lineFits mode (lineAfter mode line raised) ≡ true
+unfolding lineFits lineAfter
+line-fits House line raised l = l
+line-fits Board line raised l = refl
+
+pub clocked-fits : (mode : Mode) (m : Mmc3) → fits mode m ≡ true → fits mode (clocked mode m .mmc3) ≡ true
 unfolding clocked
-clocked-fits mode m e = with-irq m (clockIn mode (m .irq) .irq) ∙ e
+clocked-fits mode m e =
+    let c = clockIn mode (m .irq) in
+    with-line mode (withIrq m (c .irq)) (lineAfter mode (m .line) (c .answer)) (line-fits mode (m .line) (c .answer) (ranged mode m e .line)) (with-irq mode m (c .irq) ∙ e)
 
-select-fits : (m : Mmc3) (v : ℕ) → fits m ≡ true → fits (applied (Select v) m) ≡ true
+select-fits : (mode : Mode) (m : Mmc3) (v : ℕ) → fits mode m ≡ true → fits mode (applied (Select v) m) ≡ true
 unfolding applied
-select-fits m v e =
-    let p = ranged m e in
+select-fits mode m v e =
+    let p = ranged mode m e in
     in-fits (applied (Select v) m)
-    (record { select = omega arith; prgmode = omega arith; chrmode = omega arith; r0 = p .r0; r1 = p .r1; r6 = p .r6; r7 = p .r7 })
+    (record { select = omega arith; prgmode = omega arith; chrmode = omega arith; r0 = p .r0; r1 = p .r1; r6 = p .r6; r7 = p .r7; line = p .line })
 
-applied-fits : (k : Move) (m : Mmc3) → fits m ≡ true → fits (applied k m) ≡ true
+applied-fits : (mode : Mode) (k : Move) (m : Mmc3) → fits mode m ≡ true → fits mode (applied k m) ≡ true
 unfolding applied
-applied-fits Nothing m e = e
-applied-fits (Select v) m e = select-fits m v e
-applied-fits (Data v) m e = in-fits (applied (Data v) m) (data-ranged m v (ranged m e))
-applied-fits (Screens v) m e = e
-applied-fits (Latch v) m e = with-irq m _ ∙ e
-applied-fits Reload m e = with-irq m _ ∙ e
-applied-fits Enable m e = with-irq m _ ∙ e
-applied-fits Disable m e = with-irq m _ ∙ e
+applied-fits mode Nothing m e = e
+applied-fits mode (Select v) m e = select-fits mode m v e
+applied-fits mode (Data v) m e = in-fits (applied (Data v) m) (data-ranged m v (ranged mode m e))
+applied-fits mode (Screens v) m e = e
+applied-fits mode (Latch v) m e = with-irq mode m _ ∙ e
+applied-fits mode Reload m e = with-irq mode m _ ∙ e
+applied-fits mode Enable m e = with-irq mode m _ ∙ e
+applied-fits mode Disable m e = with-line mode (withIrq m _) false (low-fits mode) (with-irq mode m _ ∙ e)
 
-pub written-fits : (m : Mmc3) (v a : ℕ) → fits m ≡ true → fits (written m v a .mmc3) ≡ true
+pub written-fits : (mode : Mode) (m : Mmc3) (v a : ℕ) → fits mode m ≡ true → fits mode (written m v a .mmc3) ≡ true
 unfolding written
-written-fits m v a e = applied-fits (moveOf v a) m e
+written-fits mode m v a e = applied-fits mode (moveOf v a) m e
 
 -- what a write asks of the screens is one that a header can ask for
 abbrev pub headed : Mirrors → Bool

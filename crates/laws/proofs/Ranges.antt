@@ -61,45 +61,45 @@ use Rattle.laws.proofs.Mmc1Ranges as mmc1-ranges
 use Rattle.laws.proofs.Mmc3Ranges as mmc3-ranges
 
 -- registers are in range part by part
-abbrev Parts : MapperType → Registers → Type 0
-Parts k r =
+abbrev pub Parts : MapperType → Mode → Registers → Type 0
+Parts k mode r =
     (partFits k Uxrom true (uxrom.isStart (r .uxrom)) ≡ true)
     × (partFits k Cnrom (cnrom.fits (r .cnrom)) (cnrom.isStart (r .cnrom)) ≡ true)
     × (partFits k Mmc1 (mmc1.fits (r .mmc1)) (mmc1.isUnused (r .mmc1)) ≡ true)
-    × (partFits k Mmc3 (mmc3.fits (r .mmc3)) (mmc3.isStart (r .mmc3)) ≡ true)
+    × (partFits k Mmc3 (mmc3.fits mode (r .mmc3)) (mmc3.isStart (r .mmc3)) ≡ true)
 
-parts : (k : MapperType) (r : Registers) → fits k r ≡ true → Parts k r
+pub parts : (k : MapperType) (mode : Mode) (r : Registers) → fits k mode r ≡ true → Parts k mode r
 unfolding fits
-parts k r h =
+parts k mode r h =
     split-4
     (partFits k Uxrom true (uxrom.isStart (r .uxrom)))
     (partFits k Cnrom (cnrom.fits (r .cnrom)) (cnrom.isStart (r .cnrom)))
     (partFits k Mmc1 (mmc1.fits (r .mmc1)) (mmc1.isUnused (r .mmc1)))
-    (partFits k Mmc3 (mmc3.fits (r .mmc3)) (mmc3.isStart (r .mmc3)))
+    (partFits k Mmc3 (mmc3.fits mode (r .mmc3)) (mmc3.isStart (r .mmc3)))
     h
 
-whole : (k : MapperType) (r : Registers) → Parts k r → fits k r ≡ true
+whole : (k : MapperType) (mode : Mode) (r : Registers) → Parts k mode r → fits k mode r ≡ true
 unfolding fits
-whole k r p = join (join (join (p .0) (p .1)) (p .2)) (p .3)
+whole k mode r p = join (join (join (p .0) (p .1)) (p .2)) (p .3)
 
 cnrom-fits : (u : cnrom-type.Cnrom) (v a : ℕ) → cnrom.fits u ≡ true → cnrom.fits (cnrom.written u v a) ≡ true
 unfolding cnrom.written
 cnrom-fits u v a e = either (λ w. cnrom.fits w ≡ true) (ltb a 0x8000) e (lt-ltb (v % 4) 4 (omega arith))
 
 -- a write moves the part of its board, and that stays in its range
-moved-fits : (k : MapperType) (mode : Mode) (r : Registers) (v a : ℕ) → fits k r ≡ true → fits k (moved k mode r v a .registers) ≡ true
+moved-fits : (k : MapperType) (mode : Mode) (r : Registers) (v a : ℕ) → fits k mode r ≡ true → fits k mode (moved k mode r v a .registers) ≡ true
 unfolding moved partFits isMapper
 moved-fits Nrom mode r v a h = h
-moved-fits Uxrom mode r v a h = let p = parts Uxrom r h in whole Uxrom (moved Uxrom mode r v a .registers) (refl, p .1, p .2, p .3)
+moved-fits Uxrom mode r v a h = let p = parts Uxrom mode r h in whole Uxrom mode (moved Uxrom mode r v a .registers) (refl, p .1, p .2, p .3)
 moved-fits Cnrom mode r v a h =
-    let p = parts Cnrom r h in
-    whole Cnrom (moved Cnrom mode r v a .registers) (p .0, cnrom-fits (r .cnrom) v a (p .1), p .2, p .3)
+    let p = parts Cnrom mode r h in
+    whole Cnrom mode (moved Cnrom mode r v a .registers) (p .0, cnrom-fits (r .cnrom) v a (p .1), p .2, p .3)
 moved-fits Mmc1 mode r v a h =
-    let p = parts Mmc1 r h in
-    whole Mmc1 (moved Mmc1 mode r v a .registers) (p .0, p .1, mmc1-ranges.written-fits mode (r .mmc1) v a (p .2), p .3)
+    let p = parts Mmc1 mode r h in
+    whole Mmc1 mode (moved Mmc1 mode r v a .registers) (p .0, p .1, mmc1-ranges.written-fits mode (r .mmc1) v a (p .2), p .3)
 moved-fits Mmc3 mode r v a h =
-    let p = parts Mmc3 r h in
-    whole Mmc3 (moved Mmc3 mode r v a .registers) (p .0, p .1, p .2, mmc3-ranges.written-fits (r .mmc3) v a (p .3))
+    let p = parts Mmc3 mode r h in
+    whole Mmc3 mode (moved Mmc3 mode r v a .registers) (p .0, p .1, p .2, mmc3-ranges.written-fits mode (r .mmc3) v a (p .3))
 
 -- what keeps a range keeps it where the part is the board's own
 own-part : (own x y x′ y′ : Bool) → own ≡ true → (x ≡ true → x′ ≡ true) → cond own x y ≡ true → cond own x′ y′ ≡ true
@@ -107,14 +107,14 @@ own-part true x y x′ y′ o f h = f h
 own-part false x y x′ y′ o f h = absurd (false≢true o)
 
 -- and so does a clock
-ticked-fits : (k : MapperType) (mode : Mode) (r : Registers) → fits k r ≡ true → fits k (ticked k mode r .registers) ≡ true
+ticked-fits : (k : MapperType) (mode : Mode) (r : Registers) → fits k mode r ≡ true → fits k mode (ticked k mode r .registers) ≡ true
 unfolding ticked partFits
 ticked-fits k mode r h =
-    let p = parts k r h in
+    let p = parts k mode r h in
     let m = mmc3-clock.clocked mode (r .mmc3) .mmc3 in
-    by-test (λ (t : Ticked). fits k (t .registers) ≡ true) (isMapper k Mmc3)
-    (λ own. whole k (withMmc3 r m)
-    (p .0, p .1, p .2, own-part (isMapper k Mmc3) (mmc3.fits (r .mmc3)) (mmc3.isStart (r .mmc3)) (mmc3.fits m) (mmc3.isStart m) own (mmc3-ranges.clocked-fits mode (r .mmc3)) (p .3)))
+    by-test (λ (t : Ticked). fits k mode (t .registers) ≡ true) (isMapper k Mmc3)
+    (λ own. whole k mode (withMmc3 r m)
+    (p .0, p .1, p .2, own-part (isMapper k Mmc3) (mmc3.fits mode (r .mmc3)) (mmc3.isStart (r .mmc3)) (mmc3.fits mode m) (mmc3.isStart m) own (mmc3-ranges.clocked-fits mode (r .mmc3)) (p .3)))
     (λ other. h)
 
 -- what a board may ask of its screens: any of the four on MMC1, the header's two on MMC3, nothing elsewhere
@@ -158,9 +158,9 @@ turns OnBoard k now header AsBefore e h = h
 turns OnBoard k now header (As m) e h = sym (by-two-tests OnBoard k header m) ∙ asked-fits k (same m header) (isHeaders m) e
 
 -- the three parts of a board's range
-three : (b : Board) → inRange b ≡ true → (couldLoad (b .cart) ≡ true) × (fits (b .cart .mapper) (b .registers) ≡ true) × (mirroringFits b ≡ true)
+pub three : (b : Board) → inRange b ≡ true → (couldLoad (b .cart) ≡ true) × (fits (b .cart .mapper) (b .cart .mode) (b .registers) ≡ true) × (mirroringFits b ≡ true)
 unfolding inRange
-three b h = split-3 (couldLoad (b .cart)) (fits (b .cart .mapper) (b .registers)) (mirroringFits b) h
+three b h = split-3 (couldLoad (b .cart)) (fits (b .cart .mapper) (b .cart .mode) (b .registers)) (mirroringFits b) h
 
 write-in : (b : Board) (v a : ℕ) → inRange b ≡ true → inRange (acceptedWrite b v a .board) ≡ true
 unfolding acceptedWrite turned inRange mirroringFits
@@ -257,9 +257,9 @@ could-load s mode p c b e =
     })
 
 -- the start values of every mapper
-start-fits : (k : MapperType) → fits k (start k) ≡ true
+start-fits : (k : MapperType) (mode : Mode) → fits k mode (start k) ≡ true
 unfolding start mmc1Start partFits mmc1.isUnused mmc1.fits mmc1.serialFits mmc1.regsFits mmc3.start mmc3.isStart mmc3.irqIsStart mmc3.fits mmc3-read.register
-start-fits k = whole k (start k) (holds (isMapper k Uxrom) refl refl, holds (isMapper k Cnrom) refl refl, of-mmc1 (isMapper k Mmc1), holds (isMapper k Mmc3) refl refl)
+start-fits k mode = whole k mode (start k) (holds (isMapper k Uxrom) refl refl, holds (isMapper k Cnrom) refl refl, of-mmc1 (isMapper k Mmc1), holds (isMapper k Mmc3) (mmc3-ranges.low-fits mode) refl)
   where
     holds : (t : Bool) {x y : Bool} → x ≡ true → y ≡ true → cond t x y ≡ true
     holds t e f = either (λ (z : Bool). z ≡ true) t e f
@@ -280,7 +280,7 @@ start-screens OnBoard Mmc3 m h = h
 -- the board that such a cartridge starts with
 pub start-in-range : (c : Cartridge) → couldLoad c ≡ true → inRange (startOf c) ≡ true
 unfolding startOf inRange mirroringFits
-start-in-range c h = join (join h (start-fits (c .mapper))) (start-screens (c .mode) (c .mapper) (c .mirroring) (fields c h .headers))
+start-in-range c h = join (join h (start-fits (c .mapper) (c .mode))) (start-screens (c .mode) (c .mapper) (c .mirroring) (fields c h .headers))
 
 -- the board that an accepted load gives, of any image of bytes
 pub load-in-range : (s : List ℕ) (mode : Mode) (p c : ℕ) → AreBytes s → verdict s mode p c ≡ Take

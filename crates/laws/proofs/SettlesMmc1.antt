@@ -55,7 +55,7 @@ unfolding inRange mirroringFits screensFit
 house-screens b h e =
     same-is (b .mirroring) (b .cart .mirroring)
     (subst (λ (m : Mode). screensFit m (b .cart .mapper) (b .cart .mirroring) (b .mirroring) ≡ true) e
-    (split-3 (couldLoad (b .cart)) (fits (b .cart .mapper) (b .registers)) (mirroringFits b) h .2))
+    (split-3 (couldLoad (b .cart)) (fits (b .cart .mapper) (b .cart .mode) (b .registers)) (mirroringFits b) h .2))
 
 -- what a control load makes one, and then CHR 0, CHR 1 and PRG loads
 record Modes (b d : Board) : Type 0 where

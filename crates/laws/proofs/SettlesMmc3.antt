@@ -1,5 +1,6 @@
--- The interrupt unit moves by itself: what a call makes of it, and whether a write is refused, depends on the unit and not on the banks.
--- Latch, reload, enable and clock leave one unit whatever it was, so from there on two boards have the same one. Assumes nothing.
+-- The interrupt unit and its line move by themselves: what a call makes of them, and whether a write is refused, depends on them and not on the banks.
+-- Latch, reload, enable and clock leave one unit whatever it was, so where the lines were at one level two boards have the same unit and the same level from there on.
+-- Assumes nothing.
 use Prim.Native.Nat.{ℕ}
 use mathlib.Core.Path.{_≡_, refl, sym, ap, ap₂, _∙_, subst}
 use mathlib.Core.Bool.{Bool, true, false, cond, _&&_}
@@ -22,6 +23,7 @@ use Rattle.mmc3.specs.declared.Clocked.{Clocked}
 use Rattle.mmc3.specs.declared.Mmc3 as mmc3-type
 use Rattle.mmc3.specs.declared.Move.{Move}
 use Rattle.mmc3.specs.declared.Move.the-variants.{Nothing, Select, Data, Screens, Latch, Reload, Enable, Disable}
+use Rattle.boards.specs.Range.{inRange}
 use Rattle.boards.specs.Write.{writeWindowOn, writeLanding, acceptedWrite, landing}
 use Rattle.boards.specs.Clock.{yesNo, clock}
 use Rattle.boards.specs.Runs.{Lent, next, answer, Call, call, after, answers}
@@ -29,31 +31,55 @@ use Rattle.boards.specs.declared.Board.{Board}
 use Rattle.boards.specs.declared.Event.{Event}
 use Rattle.boards.specs.declared.Event.the-variants.{Read, Write, Clock}
 use Rattle.laws.specs.Calls.{OneImage, wipedFor, wiped, SameCalls}
+use Rattle.laws.specs.Clocks.{lineUp}
 use Rattle.laws.specs.Loads.{isAccepted, accepts}
 use Rattle.laws.specs.SettlesMmc3.{irqAnswers, Arming, armed, Accepts, Settles}
 use Rattle.laws.proofs.Positions.{same-accepts, wiped-next, same-after}
 use Rattle.laws.proofs.OneImage.{swapped, next-one, clock-one}
 use Rattle.laws.proofs.Cases.{alike}
 use Rattle.laws.proofs.Accepting.{board-alike, accepted-alike, after-write}
-use Rattle.laws.proofs.Arming.{moved-mmc3, tick-irq, tick-answer, armed-one, armed-irq}
+use Rattle.laws.proofs.Arming.{moved-mmc3, tick-mmc3, tick-answer, armed-one, armed-irq, armed-line}
 use Rattle.laws.proofs.Clocks.{ready}
 
--- a move leaves one unit of one
-one-irq : (k : Move) (m n : mmc3-type.Mmc3) → m .irq ≡ n .irq → applied k m .irq ≡ applied k n .irq
+-- the unit and its line
+abbrev Signal : Type 0
+Signal = Irq × Bool
+
+abbrev signal : mmc3-type.Mmc3 → Signal
+signal m = (m .irq, m .line)
+
+-- a move leaves the same of the same
+one-signal : (k : Move) (m n : mmc3-type.Mmc3) → signal m ≡ signal n → signal (applied k m) ≡ signal (applied k n)
 unfolding applied mmc3-clock.withIrq
-one-irq Nothing m n e = e
-one-irq (Select v) m n e = e
-one-irq (Data v) m n e = e
-one-irq (Screens v) m n e = e
-one-irq (Latch v) m n e = λ i. record { enabled = e i .enabled; latch = v; counter = e i .counter; reload = e i .reload }
-one-irq Reload m n e = λ i. record { enabled = e i .enabled; latch = e i .latch; counter = e i .counter; reload = true }
-one-irq Enable m n e = λ i. record { enabled = true; latch = e i .latch; counter = e i .counter; reload = e i .reload }
-one-irq Disable m n e = λ i. record { enabled = false; latch = e i .latch; counter = e i .counter; reload = e i .reload }
+one-signal Nothing m n e = e
+one-signal (Select v) m n e = e
+one-signal (Data v) m n e = e
+one-signal (Screens v) m n e = e
+one-signal (Latch v) m n e = λ i. (record { enabled = e i .0 .enabled; latch = v; counter = e i .0 .counter; reload = e i .0 .reload }, e i .1)
+one-signal Reload m n e = λ i. (record { enabled = e i .0 .enabled; latch = e i .0 .latch; counter = e i .0 .counter; reload = true }, e i .1)
+one-signal Enable m n e = λ i. (record { enabled = true; latch = e i .0 .latch; counter = e i .0 .counter; reload = e i .0 .reload }, e i .1)
+one-signal Disable m n e = λ i. (record { enabled = false; latch = e i .0 .latch; counter = e i .0 .counter; reload = e i .0 .reload }, false)
+
+-- what a clock whose unit did this leaves of them, and answers
+abbrev left : Mode → Bool → Clocked → Signal
+left mode line c = (c .irq, mmc3-clock.lineAfter mode line (c .answer))
+
+abbrev said : Mode → Bool → Clocked → Bool
+said mode line c = mmc3-clock.clockAnswer mode (mmc3-clock.lineAfter mode line (c .answer)) (c .answer)
+
+module _ (b : Board) (ok : inRange b ≡ true) (is-mmc3 : b .cart .mapper ≡ Mmc3) where
+  tick-signal : signal (clock b .board .registers .mmc3) ≡ left (b .cart .mode) (lineUp b) (mmc3-clock.clockIn (b .cart .mode) (b .registers .mmc3 .irq))
+  unfolding mmc3-clock.clocked mmc3-clock.withIrq
+  tick-signal = ap signal (tick-mmc3 b ok is-mmc3)
+
+  tick-said : clock b .answer ≡ yesNo (said (b .cart .mode) (lineUp b) (mmc3-clock.clockIn (b .cart .mode) (b .registers .mmc3 .irq)))
+  unfolding mmc3-clock.clocked
+  tick-said = tick-answer b ok is-mmc3
 
 -- what the two boards have in common
 record Alike (b d : Board) : Type 0 where
   one : OneImage Mmc3 b d
-  irq : b .registers .mmc3 .irq ≡ d .registers .mmc3 .irq
+  same : signal (b .registers .mmc3) ≡ signal (d .registers .mmc3)
 
 -- a write is refused on both boards or on neither
 module _ {b d : Board} (r : Alike b d) (a : ℕ) where
@@ -72,43 +98,46 @@ module _ {b d : Board} (r : Alike b d) (a : ℕ) where
   landing-alike House e =
       ap isAccepted
       (lands-there House b (r .one .mapper) e
-      ∙ ap₂ (λ (c : Cartridge) (i : Irq). landsIn c (inWindows Empty (prgRamOf c) (cond (mmc3-clock.isPending i && leb 0xE000 a && isEven a) (Refused IrqPending) Empty) a) a) (r .one .cart) (r .irq)
+      ∙ ap₂ (λ (c : Cartridge) (i : Irq). landsIn c (inWindows Empty (prgRamOf c) (cond (mmc3-clock.isPending i && leb 0xE000 a && isEven a) (Refused IrqPending) Empty) a) a) (r .one .cart) (ap (λ (s : Signal). s .0) (r .same))
       ∙ sym (lands-there House d (swapped (r .one) .mapper) (ap (λ (c : Cartridge). c .mode) (sym (r .one .cart)) ∙ e)))
   landing-alike OnBoard e = board-alike (r .one) e a
 
   both-accept : (l : Lent) → accepts b l a ≡ accepts d l a
   both-accept l = accepted-alike (r .one) l a (landing-alike (b .cart .mode) refl)
 
--- one clock of one unit in one mode
-same-clock : {A : Type 0} (f : Mode → Irq → A) {b d : Board} → Alike b d → f (b .cart .mode) (b .registers .mmc3 .irq) ≡ f (d .cart .mode) (d .registers .mmc3 .irq)
-same-clock f {b} {d} r = ap (λ (c : Cartridge). f (c .mode) (b .registers .mmc3 .irq)) (r .one .cart) ∙ ap (f (d .cart .mode)) (r .irq)
+-- one clock of one unit and one line in one mode
+same-clock : {A : Type 0} (f : Mode → Bool → Clocked → A) {b d : Board} → Alike b d
+    → f (b .cart .mode) (lineUp b) (mmc3-clock.clockIn (b .cart .mode) (b .registers .mmc3 .irq)) ≡ f (d .cart .mode) (lineUp d) (mmc3-clock.clockIn (d .cart .mode) (d .registers .mmc3 .irq))
+same-clock f r = λ i. f (r .one .cart i .mode) (r .same i .1) (mmc3-clock.clockIn (r .one .cart i .mode) (r .same i .0))
 
-next-irq : {b d : Board} → Alike b d → (l : Lent) (e : Event) → next b l e .registers .mmc3 .irq ≡ next d l e .registers .mmc3 .irq
+-- of a board
+abbrev signalOf : Board → Signal
+signalOf b = signal (b .registers .mmc3)
+
+next-signal : {b d : Board} → Alike b d → (l : Lent) (e : Event) → signalOf (next b l e) ≡ signalOf (next d l e)
 unfolding next
-next-irq r l (Read a) = r .irq
-next-irq {b} {d} r l (Write a v) =
-    ap (λ (x : Board). x .registers .mmc3 .irq) (after-write b (landing b (l .image) (l .prg) (l .chr) a) v a)
-    ∙ subst (λ (t : Bool). cond (accepts b l a) (acceptedWrite b v a .board) b .registers .mmc3 .irq ≡ cond t (acceptedWrite d v a .board) d .registers .mmc3 .irq) (both-accept r a l)
-    (alike (λ (x y : Board). x .registers .mmc3 .irq ≡ y .registers .mmc3 .irq) (accepts b l a)
-    (ap (λ (m : mmc3-type.Mmc3). m .irq) (moved-mmc3 b (r .one .mapper) v a)
-    ∙ one-irq (moveOf v a) (b .registers .mmc3) (d .registers .mmc3) (r .irq)
-    ∙ sym (ap (λ (m : mmc3-type.Mmc3). m .irq) (moved-mmc3 d (swapped (r .one) .mapper) v a)))
-    (r .irq))
-    ∙ sym (ap (λ (x : Board). x .registers .mmc3 .irq) (after-write d (landing d (l .image) (l .prg) (l .chr) a) v a))
-next-irq {b} {d} r l Clock =
-    tick-irq b (r .one .first) (r .one .mapper)
-    ∙ same-clock (λ (m : Mode) (i : Irq). mmc3-clock.clockIn m i .irq) r
-    ∙ sym (tick-irq d (r .one .second) (swapped (r .one) .mapper))
+next-signal r l (Read a) = r .same
+next-signal {b} {d} r l (Write a v) =
+    ap signalOf (after-write b (landing b (l .image) (l .prg) (l .chr) a) v a)
+    ∙ subst (λ (t : Bool). signalOf (cond (accepts b l a) (acceptedWrite b v a .board) b) ≡ signalOf (cond t (acceptedWrite d v a .board) d)) (both-accept r a l)
+    (alike (λ (x y : Board). signalOf x ≡ signalOf y) (accepts b l a)
+    (ap signal (moved-mmc3 b (r .one .mapper) v a)
+    ∙ one-signal (moveOf v a) (b .registers .mmc3) (d .registers .mmc3) (r .same)
+    ∙ sym (ap signal (moved-mmc3 d (swapped (r .one) .mapper) v a)))
+    (r .same))
+    ∙ sym (ap signalOf (after-write d (landing d (l .image) (l .prg) (l .chr) a) v a))
+next-signal {b} {d} r l Clock =
+    tick-signal b (r .one .first) (r .one .mapper) ∙ same-clock left r ∙ sym (tick-signal d (r .one .second) (swapped (r .one) .mapper))
 
 -- any event keeps what the boards have in common
 next-alike : {b d : Board} → Alike b d → (l : Lent) (e : Event) → Alike (next b l e) (next d l e)
-next-alike r l e = record { one = next-one (r .one) l e; irq = next-irq r l e }
+next-alike r l e = record { one = next-one (r .one) l e; same = next-signal r l e }
 
 answer-alike : {b d : Board} → Alike b d → clock b .answer ≡ clock d .answer
 answer-alike {b} {d} r =
-    tick-answer b (r .one .first) (r .one .mapper)
-    ∙ same-clock (λ (m : Mode) (i : Irq). yesNo (mmc3-clock.clockIn m i .answer)) r
-    ∙ sym (tick-answer d (r .one .second) (swapped (r .one) .mapper))
+    tick-said b (r .one .first) (r .one .mapper)
+    ∙ same-clock (λ (m : Mode) (line : Bool) (c : Clocked). yesNo (said m line c)) r
+    ∙ sym (tick-said d (r .one .second) (swapped (r .one) .mapper))
 
 -- one answer more, which counts if it is a clock's
 module _ (b d : Board) (l k : Lent) (cs ds : List Call) where
@@ -143,13 +172,15 @@ unfolding after
 after-alike r [] = r
 after-alike r (call l e ∷ cs) = after-alike (next-alike r l e) cs
 
--- from that clock on every IRQ answer is the same, in either mode, under the same calls
-pub mmc3-settles : (b d : Board) → OneImage Mmc3 b d → (w u : Arming) → w .latch .byte ≡ u .latch .byte → Accepts b w → Accepts d u → (cs ds : List Call) → SameCalls cs ds
-    → Settles (armed b w) (armed d u) cs ds
+-- from that clock on every IRQ answer is the same, in either mode, under the same calls, where the lines were at one level
+pub mmc3-settles : (b d : Board) → OneImage Mmc3 b d → lineUp b ≡ lineUp d → (w u : Arming) → w .latch .byte ≡ u .latch .byte → Accepts b w → Accepts d u
+    → (cs ds : List Call) → SameCalls cs ds → Settles (armed b w) (armed d u) cs ds
 unfolding next
-mmc3-settles b d one w u latch p q cs ds same-calls =
+mmc3-settles b d one line w u latch p q cs ds same-calls =
     record {
-      irq-answers-agree = λ l k. one-more (armed b w) (armed d u) l k cs ds Clock said (answers-alike onward cs ∙ same-irq (clock (armed d u) .board) cs ds same-calls);
+      irq-answers-agree = λ l k. one-more (armed b w) (armed d u) l k cs ds Clock answered (answers-alike onward cs ∙ same-irq (clock (armed d u) .board) cs ds same-calls);
+      levels-agree =
+          ap (λ (s : Signal). s .1) (after-alike onward cs .same) ∙ ap lineUp (same-after (clock (armed d u) .board) cs ds same-calls);
       both-refuse-or-neither = λ l k e a.
           both-accept (after-alike onward cs) a l
           ∙ ap (λ (x : Board). accepts x l a) (same-after (clock (armed d u) .board) cs ds same-calls)
@@ -167,15 +198,23 @@ mmc3-settles b d one w u latch p q cs ds same-calls =
         ∙ ap (λ (c : Cartridge). mmc3-clock.clockIn (c .mode) (ready (u .latch .byte) (d .registers .mmc3 .irq .counter))) (both .cart)
         ∙ sym (ap (mmc3-clock.clockIn (armed d u .cart .mode)) (armed-irq (swapped one) u q))
 
-    said : clock (armed b w) .answer ≡ clock (armed d u) .answer
-    said =
-        tick-answer (armed b w) (both .first) (both .mapper) ∙ ap (λ (c : Clocked). yesNo (c .answer)) clocks
-        ∙ sym (tick-answer (armed d u) (both .second) (swapped both .mapper))
+    lines : lineUp (armed b w) ≡ lineUp (armed d u)
+    lines = armed-line one w p ∙ line ∙ sym (armed-line (swapped one) u q)
+
+    by-the-clock : {A : Type 0} (f : Mode → Bool → Clocked → A)
+        → f (armed b w .cart .mode) (lineUp (armed b w)) (mmc3-clock.clockIn (armed b w .cart .mode) (armed b w .registers .mmc3 .irq))
+        ≡ f (armed d u .cart .mode) (lineUp (armed d u)) (mmc3-clock.clockIn (armed d u .cart .mode) (armed d u .registers .mmc3 .irq))
+    by-the-clock f = λ i. f (both .cart i .mode) (lines i) (clocks i)
+
+    answered : clock (armed b w) .answer ≡ clock (armed d u) .answer
+    answered =
+        tick-said (armed b w) (both .first) (both .mapper)
+        ∙ by-the-clock (λ (m : Mode) (l : Bool) (c : Clocked). yesNo (said m l c))
+        ∙ sym (tick-said (armed d u) (both .second) (swapped both .mapper))
 
     onward : Alike (clock (armed b w) .board) (clock (armed d u) .board)
     onward =
         record {
           one = swapped (clock-one (swapped (clock-one both)));
-          irq = tick-irq (armed b w) (both .first) (both .mapper) ∙ ap (λ (c : Clocked). c .irq) clocks
-              ∙ sym (tick-irq (armed d u) (both .second) (swapped both .mapper));
+          same = tick-signal (armed b w) (both .first) (both .mapper) ∙ by-the-clock left ∙ sym (tick-signal (armed d u) (both .second) (swapped both .mapper));
         }

@@ -1,5 +1,5 @@
--- Two histories that meet all that the theorem of `Demand3` asks of MMC3, in each mode, three runs of house mode that fall short by one write and leave the boards
--- apart, and a write that both refuse: each is computed. Assumes nothing.
+-- Two histories that meet all that the theorems of `Demand3` ask of MMC3, in each mode, runs that fall short by one write and leave the boards apart, three of house
+-- mode and that of board mode without the acknowledging write, and a write that both refuse: each is computed. Assumes nothing.
 use mathlib.Core.Path.{_≡_, refl}
 use mathlib.Core.Bool.{true, false}
 use mathlib.Core.List.{List, [], _∷_, map}
@@ -15,12 +15,13 @@ use Rattle.boards.specs.declared.Event.{Event}
 use Rattle.boards.specs.declared.Event.the-variants.{Read, Write, Clock}
 use Rattle.boards.specs.declared.ClockAnswer.{ClockAnswer}
 use Rattle.boards.specs.declared.ClockAnswer.the-variants.{No, Yes}
-use Rattle.laws.specs.Calls.{History, reached}
-use Rattle.laws.specs.Demand3.{ImageOf, BothArmed}
+use Rattle.laws.specs.Calls.{History, reached, LentWrite, wrote}
+use Rattle.laws.specs.Clocks.{lineUp}
+use Rattle.laws.specs.Demand3.{ImageOf, BothArmed, BothAcknowledged}
 use Rattle.laws.specs.Loads.{accepts}
 use Rattle.laws.specs.PLines.{mmc3 as mmc3-image, ram, loadOf, withRams, callsOf}
-use Rattle.laws.specs.SettlesMmc3.{irqAnswers, Arming, armed, Accepts, Settles}
-use Rattle.laws.proofs.Demand3.{mmc3-histories-settle}
+use Rattle.laws.specs.SettlesMmc3.{irqAnswers, Arming, armed, Accepts, Acknowledges, Settles}
+use Rattle.laws.proofs.Demand3.{mmc3-house-histories-settle, mmc3-board-histories-settle}
 use Rattle.laws.proofs.Opened.{opened}
 
 -- two histories that meet all this: one without calls, and one that is in the midst of a game; and buffers for both
@@ -60,15 +61,13 @@ arming l =
       enable = record { lent = l; address = 0xE001; byte = 0 };
     }
 
-pub met-fresh : (mode : Mode) → Accepts (reached (fresh mode)) (arming lent)
+pub met-fresh : Accepts (reached (fresh House)) (arming lent)
 unfolding opened
-met-fresh House = record { is-latch = refl; is-reload = refl; is-enable = refl; latch = refl; reload = refl; enable = refl }
-met-fresh OnBoard = record { is-latch = refl; is-reload = refl; is-enable = refl; latch = refl; reload = refl; enable = refl }
+met-fresh = record { is-latch = refl; is-reload = refl; is-enable = refl; latch = refl; reload = refl; enable = refl }
 
-pub met-used : (mode : Mode) → Accepts (reached (used mode)) (arming others)
+pub met-used : Accepts (reached (used House)) (arming others)
 unfolding opened
-met-used House = record { is-latch = refl; is-reload = refl; is-enable = refl; latch = refl; reload = refl; enable = refl }
-met-used OnBoard = record { is-latch = refl; is-reload = refl; is-enable = refl; latch = refl; reload = refl; enable = refl }
+met-used = record { is-latch = refl; is-reload = refl; is-enable = refl; latch = refl; reload = refl; enable = refl }
 
 -- where the game has left its unit
 pub met-unit : (mode : Mode) → reached (used mode) .registers .mmc3 .irq ≡ record { enabled = true; latch = 9; counter = 7; reload = false }
@@ -76,44 +75,90 @@ unfolding opened
 met-unit House = refl
 met-unit OnBoard = refl
 
+-- in board mode another game stands with its line up
+abbrev pub risen : (mode : Mode) → History mode mmc3-image
+risen mode = history mode (callsOf mmc3-image (Write 0xC000 0 ∷ Write 0xC001 0 ∷ Write 0xE001 0 ∷ Clock ∷ Write 0xC000 9 ∷ []))
+
+pub met-line : lineUp (reached (risen OnBoard)) ≡ true
+unfolding opened
+met-line = refl
+
+abbrev pub acknowledging : Lent → LentWrite
+acknowledging l = record { lent = l; address = 0xE000; byte = 0 }
+
+pub met-fresh-acknowledges : Acknowledges (reached (fresh OnBoard)) (acknowledging lent)
+unfolding opened
+met-fresh-acknowledges = record { is-acknowledging = refl; accepted = refl }
+
+pub met-risen-acknowledges : Acknowledges (reached (risen OnBoard)) (acknowledging others)
+unfolding opened
+met-risen-acknowledges = record { is-acknowledging = refl; accepted = refl }
+
+pub met-fresh-accepts : Accepts (wrote (reached (fresh OnBoard)) (acknowledging lent)) (arming lent)
+unfolding opened
+met-fresh-accepts = record { is-latch = refl; is-reload = refl; is-enable = refl; latch = refl; reload = refl; enable = refl }
+
+pub met-risen-accepts : Accepts (wrote (reached (risen OnBoard)) (acknowledging others)) (arming others)
+unfolding opened
+met-risen-accepts = record { is-latch = refl; is-reload = refl; is-enable = refl; latch = refl; reload = refl; enable = refl }
+
 -- calls for both: a refused write, a read, a clock, and another latch
 abbrev pub calls : Lent → List Call
 calls l = call (runs.lent (l .image) [] (l .chr)) (Write 0xE000 0) ∷ map (call l) (Read 0x8000 ∷ Clock ∷ Write 0xC000 5 ∷ [])
 
--- all that demand 3 asks of MMC3
-pub met-both : (mode : Mode) → BothArmed (fresh mode) (used mode) (arming lent) (arming others) (calls lent) (calls others)
-met-both mode =
+-- all that demand 3 asks of MMC3, in each mode
+pub met-both : BothArmed (fresh House) (used House) (arming lent) (arming others) (calls lent) (calls others)
+met-both = record { image = met-image House; first-accepts = met-fresh; second-accepts = met-used; one-latch = refl; then-the-same-calls = refl }
+
+pub met-both-on-board : BothAcknowledged (fresh OnBoard) (risen OnBoard) (acknowledging lent) (acknowledging others) (arming lent) (arming others) (calls lent) (calls others)
+met-both-on-board =
     record {
-      image = met-image mode;
-      first-accepts = met-fresh mode;
-      second-accepts = met-used mode;
+      image = met-image OnBoard;
+      first-acknowledges = met-fresh-acknowledges;
+      second-acknowledges = met-risen-acknowledges;
+      first-accepts = met-fresh-accepts;
+      second-accepts = met-risen-accepts;
       one-latch = refl;
       then-the-same-calls = refl;
     }
 
 -- so the two agree
-pub met : (mode : Mode) → Settles (armed (reached (fresh mode)) (arming lent)) (armed (reached (used mode)) (arming others)) (calls lent) (calls others)
-met mode = mmc3-histories-settle (fresh mode) (used mode) (arming lent) (arming others) (calls lent) (calls others) (met-both mode)
+pub met : Settles (armed (reached (fresh House)) (arming lent)) (armed (reached (used House)) (arming others)) (calls lent) (calls others)
+met = mmc3-house-histories-settle (fresh House) (used House) (arming lent) (arming others) (calls lent) (calls others) met-both
 
--- what the two boards answer to clocks after a run that falls short by one write
-abbrev apart : Mode → List Event → List Event → List ClockAnswer → List ClockAnswer → Type 0
-apart mode es ticks x y =
-    (irqAnswers (after (reached (fresh mode)) (callsOf mmc3-image es)) (callsOf mmc3-image ticks) ≡ x) × (irqAnswers (after (reached (used mode)) (callsOf mmc3-image es)) (callsOf mmc3-image ticks) ≡ y)
+pub met-on-board : Settles (armed (wrote (reached (fresh OnBoard)) (acknowledging lent)) (arming lent)) (armed (wrote (reached (risen OnBoard)) (acknowledging others)) (arming others)) (calls lent) (calls others)
+met-on-board =
+    mmc3-board-histories-settle (fresh OnBoard) (risen OnBoard) (acknowledging lent) (acknowledging others) (arming lent) (arming others) (calls lent) (calls others) met-both-on-board
+
+-- what two boards answer to clocks after a run that falls short by one write
+abbrev apart : {mode : Mode} → History mode mmc3-image → History mode mmc3-image → List Event → List Event → List ClockAnswer → List ClockAnswer → Type 0
+apart x y es ticks first second =
+    (irqAnswers (after (reached x) (callsOf mmc3-image es)) (callsOf mmc3-image ticks) ≡ first) × (irqAnswers (after (reached y) (callsOf mmc3-image es)) (callsOf mmc3-image ticks) ≡ second)
 
 -- no reload mark
-pub without-the-reload : apart House (Write 0xC000 2 ∷ Write 0xE001 0 ∷ []) (Clock ∷ []) (Yes ∷ []) (No ∷ [])
+pub without-the-reload : apart (fresh House) (used House) (Write 0xC000 2 ∷ Write 0xE001 0 ∷ []) (Clock ∷ []) (Yes ∷ []) (No ∷ [])
 unfolding opened
 without-the-reload = (refl, refl)
 
 -- no enable
-pub without-the-enable : apart House (Write 0xC000 0 ∷ Write 0xC001 0 ∷ []) (Clock ∷ Clock ∷ []) (No ∷ No ∷ []) (No ∷ Yes ∷ [])
+pub without-the-enable : apart (fresh House) (used House) (Write 0xC000 0 ∷ Write 0xC001 0 ∷ []) (Clock ∷ Clock ∷ []) (No ∷ No ∷ []) (No ∷ Yes ∷ [])
 unfolding opened
 without-the-enable = (refl, refl)
 
 -- no latch
-pub without-the-latch : apart House (Write 0xC001 0 ∷ Write 0xE001 0 ∷ []) (Clock ∷ Clock ∷ []) (No ∷ Yes ∷ []) (No ∷ No ∷ [])
+pub without-the-latch : apart (fresh House) (used House) (Write 0xC001 0 ∷ Write 0xE001 0 ∷ []) (Clock ∷ Clock ∷ []) (No ∷ Yes ∷ []) (No ∷ No ∷ [])
 unfolding opened
 without-the-latch = (refl, refl)
+
+-- in board mode no acknowledging write: the line of one is up
+pub without-the-acknowledgement : apart (fresh OnBoard) (risen OnBoard) (Write 0xC000 2 ∷ Write 0xC001 0 ∷ Write 0xE001 0 ∷ []) (Clock ∷ Clock ∷ Clock ∷ []) (No ∷ No ∷ Yes ∷ []) (Yes ∷ Yes ∷ Yes ∷ [])
+unfolding opened
+without-the-acknowledgement = (refl, refl)
+
+-- and with it the two agree, as computed
+pub with-the-acknowledgement : apart (fresh OnBoard) (risen OnBoard) (Write 0xE000 0 ∷ Write 0xC000 2 ∷ Write 0xC001 0 ∷ Write 0xE001 0 ∷ []) (Clock ∷ Clock ∷ Clock ∷ []) (No ∷ No ∷ Yes ∷ []) (No ∷ No ∷ Yes ∷ [])
+unfolding opened
+with-the-acknowledgement = (refl, refl)
 
 -- the acknowledging write after latch 1, reload, enable and clock is refused on both in house mode
 pub refused-on-both : (accepts (after (reached (fresh House)) (callsOf mmc3-image (Write 0xC000 1 ∷ Write 0xC001 0 ∷ Write 0xE001 0 ∷ Clock ∷ []))) lent 0xE000 ≡ false)

@@ -52,7 +52,7 @@ roomy : (b : Board) → inRange b ≡ true → Roomy (b .cart)
 unfolding inRange badPrg
 roomy b h =
     let c = b .cart in
-    let f = fields c (split-3 (couldLoad c) (fits (b .cart .mapper) (b .registers)) (mirroringFits b) h .0) in
+    let f = fields c (split-3 (couldLoad c) (fits (b .cart .mapper) (b .cart .mode) (b .registers)) (mirroringFits b) h .0) in
     record {
       some = nonzero (c .prg) ((eqb (mapperNumber (c .mapper)) 0 || eqb (mapperNumber (c .mapper)) 3) && ltb 2 (c .prg)) (f .prg-taken);
       room = f .room;

@@ -1,16 +1,17 @@
--- Runs of clocks on an MMC3 board.
+-- Runs of clocks on an MMC3 board, and the level of its line.
 use Prim.Native.Nat.{ℕ, zero, suc}
 use mathlib.Core.Path.{_≡_}
 use mathlib.Core.Bool.{Bool, true, false}
 use Rattle.common.specs.declared.Mode.{Mode}
 use Rattle.cartridge.specs.declared.MapperType.the-variants.{Mmc3}
+use Rattle.mmc3.specs.Clock.{boardClock}
 use Rattle.boards.specs.Range.{inRange}
 use Rattle.boards.specs.Clock.{clock}
 use Rattle.boards.specs.declared.Board.{Board}
 use Rattle.boards.specs.declared.ClockAnswer.{ClockAnswer}
 use Rattle.boards.specs.declared.ClockAnswer.the-variants.{No, Yes, Refused}
 
--- an MMC3 board that calls can have reached, in this mode
+-- an MMC3 board in range, in this mode
 pub record Plays (mode : Mode) (b : Board) : Type 0 where
   pub in-mode : b .cart .mode ≡ mode
   pub is-mmc3 : b .cart .mapper ≡ Mmc3
@@ -38,3 +39,12 @@ isYes (Refused why) = false
 abbrev pub saysYes : ℕ → Board → Bool
 saysYes zero b = false
 saysYes (suc k) b = isYes (clock (ticked k b) .answer)
+
+-- "the level of the line": whether it is up
+abbrev pub lineUp : Board → Bool
+lineUp b = b .registers .mmc3 .line
+
+-- whether the unit of the real board raises the line at clock k, be it up already or not
+abbrev pub raises : ℕ → Board → Bool
+raises zero b = false
+raises (suc k) b = boardClock (ticked k b .registers .mmc3 .irq) .answer

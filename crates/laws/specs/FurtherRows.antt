@@ -1,4 +1,4 @@
--- Further rows beside the P lines, worked out by hand from document 01 and held under one claim: what each window of board mode shows, at counts where the
+-- Further rows beside the P lines, worked out by hand from document 01 (one row of clocks as M-101 has it) and held under one claim: what each window of board mode shows, at counts where the
 -- modulo bites, where a byte is stored, and which notices come; house mode's oddities; every refusal with its place in the order; the size and the mark.
 use Prim.Native.Nat.{ℕ, _+_, _*_, _/_, _%_}
 use mathlib.Core.Bool.{Bool, true, false}
@@ -309,9 +309,9 @@ rows =
     -- 14: "even address in E000-FFFF, IRQ enabled, counter 0 or 1"; in board mode it is taken
     ∷ row (asPLines (whenPlayed House paper.mmc3 (Write 0xE001 0 ∷ Write 0xE000 0 ∷ []))) (number 0 ∷ number (refusedBy 14) ∷ [])
     ∷ row (asPLines (whenPlayed OnBoard paper.mmc3 (Write 0xE001 0 ∷ Write 0xE000 0 ∷ []))) (number 0 ∷ number 0 ∷ [])
-    -- a clock: "yes exactly when the counter is 0 and IRQ enabled"; the counter runs while it is not
+    -- a clock: "yes exactly when the counter is 0 and IRQ enabled"; the counter runs while it is not; in board mode the line that it raises stays up
     ∷ row (asPLines (whenPlayed OnBoard paper.mmc3 (Write 0xC000 0 ∷ Write 0xC001 0 ∷ Clock ∷ Clock ∷ []))) (number 0 ∷ number 0 ∷ number 0 ∷ number 0 ∷ [])
-    ∷ row (asPLines (whenPlayed OnBoard paper.mmc3 (Write 0xC000 2 ∷ Write 0xC001 0 ∷ Clock ∷ Clock ∷ Write 0xE001 0 ∷ Clock ∷ Clock ∷ []))) (number 0 ∷ number 0 ∷ number 0 ∷ number 0 ∷ number 0 ∷ number 1 ∷ number 0 ∷ [])
+    ∷ row (asPLines (whenPlayed OnBoard paper.mmc3 (Write 0xC000 2 ∷ Write 0xC001 0 ∷ Clock ∷ Clock ∷ Write 0xE001 0 ∷ Clock ∷ Clock ∷ []))) (number 0 ∷ number 0 ∷ number 0 ∷ number 0 ∷ number 0 ∷ number 1 ∷ number 1 ∷ [])
     ∷ row (asPLines (whenPlayed House paper.mmc3 (Write 0xC000 2 ∷ Write 0xC001 0 ∷ Clock ∷ Clock ∷ Write 0xE001 0 ∷ Clock ∷ Clock ∷ []))) (number 0 ∷ number 0 ∷ number 0 ∷ number 0 ∷ number 0 ∷ number 0 ∷ number 1 ∷ [])
     -- header reader: 1 before 2; byte 3 counts
     ∷ row (readsHeader (take 15 (header 1 0 0 0))) (number (refusedBy 1) ∷ [])

@@ -4,8 +4,10 @@ pub mod PLines
 pub mod Numbers
 pub mod FurtherRows
 pub mod Nes2Rows
+pub mod LineRows
 pub mod Loadable
 pub mod Clocks
+pub mod Deeds
 pub mod ThreeWrites
 pub mod Within
 pub mod Useless

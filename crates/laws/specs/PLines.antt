@@ -1,4 +1,4 @@
--- The P lines of document 01, as rows of one table: what is asked, and what is wanted.
+-- The P lines of document 01 (P10's board row as M-101 has it), as rows of one table: what is asked, and what is wanted.
 use Prim.Native.Nat.{ℕ, _+_, _-_}
 use mathlib.Core.List.{List, [], _∷_, _++_, map}
 use lib.ListN.{replicate}
@@ -163,9 +163,9 @@ rows =
     -- P9: MMC3 latch 0, clocks 1-3: no yes yes; board: yes yes yes
     ∷ row (whenPlayed House mmc3 (armed 0 three)) (0 ∷ 0 ∷ 0 ∷ 0 ∷ 1 ∷ 1 ∷ [])
     ∷ row (whenPlayed OnBoard mmc3 (armed 0 three)) (0 ∷ 0 ∷ 0 ∷ 1 ∷ 1 ∷ 1 ∷ [])
-    -- P10: latch 2, clocks 1-7: yes at 4 and 7; board: 3 and 6
+    -- P10: latch 2, clocks 1-7: yes at 4 and 7; board, M-101: "up from 3 to 7"
     ∷ row (whenPlayed House mmc3 (armed 2 seven)) (0 ∷ 0 ∷ 0 ∷ 0 ∷ 0 ∷ 0 ∷ 1 ∷ 0 ∷ 0 ∷ 1 ∷ [])
-    ∷ row (whenPlayed OnBoard mmc3 (armed 2 seven)) (0 ∷ 0 ∷ 0 ∷ 0 ∷ 0 ∷ 1 ∷ 0 ∷ 0 ∷ 1 ∷ 0 ∷ [])
+    ∷ row (whenPlayed OnBoard mmc3 (armed 2 seven)) (0 ∷ 0 ∷ 0 ∷ 0 ∷ 0 ∷ 1 ∷ 1 ∷ 1 ∷ 1 ∷ 1 ∷ [])
     -- P11: UxROM, PRG 2, bank 2, read 8000: 11; board: PRG byte 0
     ∷ row (whenPlayed House uxrom (Write 0x8000 2 ∷ Read 0x8000 ∷ [])) (0 ∷ refusedBy 11 ∷ [])
     ∷ row (whenPlayed OnBoard uxrom (Write 0x8000 2 ∷ Read 0x8000 ∷ [])) (0 ∷ 7 ∷ [])

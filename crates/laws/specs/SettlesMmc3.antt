@@ -1,10 +1,11 @@
--- Demand 3, MMC3: two boards of one image and mode that accept the same latch, reload, enable and clock agree on every IRQ answer from that clock on.
+-- Demand 3, MMC3: two boards of one image and mode that accept the same latch, reload, enable and clock, in board mode after an acknowledging write, agree on every IRQ
+-- answer from that clock on.
 use Prim.Native.Nat.{ℕ}
 use mathlib.Core.Path.{_≡_}
 use mathlib.Core.Bool.{true}
 use mathlib.Core.List.{List, [], _∷_}
 use Rattle.mmc3.specs.Write.{moveOf}
-use Rattle.mmc3.specs.declared.Move.the-variants.{Latch, Reload, Enable}
+use Rattle.mmc3.specs.declared.Move.the-variants.{Latch, Reload, Enable, Disable}
 use Rattle.boards.specs.Clock.{clock}
 use Rattle.boards.specs.Runs.{Lent, Call, call, after, answers}
 use Rattle.boards.specs.declared.Board.{Board}
@@ -13,6 +14,7 @@ use Rattle.boards.specs.declared.Answer.{Answer}
 use Rattle.boards.specs.declared.Answer.the-variants.{Read as toRead, Write as toWrite, Clock as toClock}
 use Rattle.boards.specs.declared.ClockAnswer.{ClockAnswer}
 use Rattle.laws.specs.Calls.{LentWrite, wrote, wipedLent}
+use Rattle.laws.specs.Clocks.{lineUp}
 use Rattle.laws.specs.Loads.{accepts}
 
 -- the IRQ answers, which are those of clocks, among answers
@@ -53,9 +55,16 @@ pub record Accepts (b : Board) (w : Arming) : Type 0 where
   pub reload : accepts (latched b w) (w .reload .lent) (w .reload .address) ≡ true
   pub enable : accepts (reloaded b w) (w .enable .lent) (w .enable .address) ≡ true
 
+-- board mode, M-101: the sequence "begins with an even write to E000-FFFF, accepted like the rest"
+pub record Acknowledges (b : Board) (w : LentWrite) : Type 0 where
+  pub is-acknowledging : moveOf (w .byte) (w .address) ≡ Disable
+  pub accepted : accepts b (w .lent) (w .address) ≡ true
+
 -- what demand 3 says of two boards that accepted the three writes, of the clock straight after them and of the calls that they get then
 pub record Settles (b d : Board) (cs ds : List Call) : Type 0 where
   -- "agree on every IRQ answer from that clock on"
   pub irq-answers-agree : (l k : Lent) → irqAnswers b (call l Clock ∷ cs) ≡ irqAnswers d (call k Clock ∷ ds)
+  -- so too on the level, where it is asked without a clock
+  pub levels-agree : lineUp (after (clock b .board) cs) ≡ lineUp (after (clock d .board) ds)
   -- a later write, so too the acknowledging one (14), is refused on both or on neither
   pub both-refuse-or-neither : (l k : Lent) → wipedLent l ≡ wipedLent k → (a : ℕ) → accepts (after (clock b .board) cs) l a ≡ accepts (after (clock d .board) ds) k a

@@ -1,4 +1,5 @@
-// An owner lends its interrupt unit to each clock. Plays P9 and P10 of document 01, in house mode and in board mode.
+// An owner lends its interrupt unit to each clock. Plays P9 and P10 of document 01, in house mode, and the same clocks in board mode: there it says which of them
+// raise the line (M-101), which is the board's and not the unit's.
 ghost use mathlib.Core.Path.{_≡_};
 ghost use Rattle.mmc3.specs.Clock.{clockIn};
 use common::Mode;
@@ -54,10 +55,10 @@ fn play(mode: Mode, latch: u8, clocks: usize) {
 fn main() {
     print(b"P9 house:");
     play(Mode::House, 0, 3);
-    print(b"P9 board:");
+    print(b"P9 board raises:");
     play(Mode::Board, 0, 3);
     print(b"P10 house:");
     play(Mode::House, 2, 7);
-    print(b"P10 board:");
+    print(b"P10 board raises:");
     play(Mode::Board, 2, 7);
 }

@@ -1,6 +1,6 @@
--- MMC3: the interrupt unit and its clock.
+-- MMC3: the interrupt unit and its clock, and the line that the real board's unit raises. "M-101" is that request of document 02.
 use Prim.Native.Nat.{ℕ, _-_}
-use mathlib.Core.Bool.{Bool, false, cond, _&&_}
+use mathlib.Core.Bool.{Bool, false, cond, _&&_, _||_}
 use lib.Dec.{ltb, eqb}
 use Rattle.common.specs.declared.Mode.{Mode}
 use Rattle.common.specs.declared.Mode.the-variants.{House, Board}
@@ -24,22 +24,39 @@ houseClock i =
 unfoldable pub nextCounter : Irq → ℕ
 nextCounter i = cond (i .reload) (i .latch) (cond (eqb (i .counter) 0) (i .latch) (i .counter - 1))
 
--- board: "then yes exactly when the counter is 0 and IRQ enabled"
+-- board: "then yes exactly when the counter is 0 and IRQ enabled"; since M-101 that yes is the unit's, and raises the line
 unfoldable pub boardClock : Irq → Clocked
 boardClock i = at i (nextCounter i) (i .enabled && eqb (nextCounter i) 0)
 
--- the clock of each mode
+-- the clock of the unit in each mode
 unfoldable pub clockIn : Mode → Irq → Clocked
 clockIn House i = houseClock i
 clockIn Board i = boardClock i
 
--- a board with another interrupt unit
+-- a board with another interrupt unit, its line as it was
 unfoldable pub withIrq : Mmc3 → Irq → Mmc3
-withIrq m i = record { select = m .select; prgmode = m .prgmode; chrmode = m .chrmode; regs = m .regs; irq = i }
+withIrq m i = record { select = m .select; prgmode = m .prgmode; chrmode = m .chrmode; regs = m .regs; irq = i; line = m .line }
 
--- a clock of the board is one of its unit
+-- a board with its line at another level
+abbrev pub withLine : Mmc3 → Bool → Mmc3
+withLine m level = record { select = m .select; prgmode = m .prgmode; chrmode = m .chrmode; regs = m .regs; irq = m .irq; line = level }
+
+-- the line after a clock whose unit raised it or did not; house: as it was, "always low in house mode"; board, M-101: "the line, once raised, stays raised"
+unfoldable pub lineAfter : Mode → Bool → Bool → Bool
+lineAfter House line raised = line
+lineAfter Board line raised = line || raised
+
+-- what a clock that leaves this level answers; house: what its unit says; board, M-101: "From now on a board clock answers the level of the line"
+unfoldable pub clockAnswer : Mode → Bool → Bool → Bool
+clockAnswer House level raised = raised
+clockAnswer Board level raised = level
+
+-- a clock of the board: of its unit, and of the line by what the unit says
 unfoldable pub clocked : Mode → Mmc3 → Ticked
-clocked mode m = record { mmc3 = withIrq m (clockIn mode (m .irq) .irq); answer = clockIn mode (m .irq) .answer }
+clocked mode m =
+    let c = clockIn mode (m .irq) in
+    let level = lineAfter mode (m .line) (c .answer) in
+    record { mmc3 = withLine (withIrq m (c .irq)) level; answer = clockAnswer mode level (c .answer) }
 
 -- refusal 14: "IRQ enabled, counter 0 or 1"
 abbrev pub isPending : Irq → Bool

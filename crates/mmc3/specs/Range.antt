@@ -1,13 +1,15 @@
 -- MMC3: its start, and the ranges of its fields.
 use Prim.Native.Nat.{_%_}
-use mathlib.Core.Bool.{Bool, false, not, _&&_}
+use mathlib.Core.Bool.{Bool, true, false, not, _&&_}
 use mathlib.Core.List.{[], _∷_}
 use lib.Dec.{ltb, eqb}
+use Rattle.common.specs.declared.Mode.{Mode}
+use Rattle.common.specs.declared.Mode.the-variants.{House, Board}
 use Rattle.mmc3.specs.Read.{register}
 use Rattle.mmc3.specs.declared.Irq.{Irq}
 use Rattle.mmc3.specs.declared.Mmc3.{Mmc3}
 
--- "Registers start at 0 except as said"
+-- "Registers start at 0 except as said"; M-101: "The line is low at load"
 unfoldable pub start : Mmc3
 start =
     record {
@@ -16,6 +18,7 @@ start =
       chrmode = 0;
       regs = 0 ∷ 0 ∷ 0 ∷ 0 ∷ 0 ∷ 0 ∷ 0 ∷ 0 ∷ [];
       irq = record { enabled = false; latch = 0; counter = 0; reload = false };
+      line = false;
     }
 
 -- the unit at its start
@@ -36,13 +39,17 @@ isStart m =
     && eqb (register m 5) 0
     && eqb (register m 6) 0
     && eqb (register m 7) 0)
+    && not (m .line)
     && irqIsStart (m .irq)
 
--- "PRG mode .. 0-1 on MMC3; CHR mode 0-1; select 0-7; R0, R1 even; R6, R7 up to 63"
-unfoldable pub fits : Mmc3 → Bool
-fits m =
+-- M-101: "always low in house mode"; "it may be up on MMC3 here, enabled or not"
+unfoldable pub lineFits : Mode → Bool → Bool
+lineFits House line = not line
+lineFits Board line = true
+
+-- "PRG mode .. 0-1 on MMC3; CHR mode 0-1; select 0-7; R0, R1 even; R6, R7 up to 63"; and the line by its mode
+unfoldable pub fits : Mode → Mmc3 → Bool
+fits mode m =
     (ltb (m .select) 8 && ltb (m .prgmode) 2 && ltb (m .chrmode) 2)
-    && eqb (register m 0 % 2) 0
-    && eqb (register m 1 % 2) 0
-    && ltb (register m 6) 64
-    && ltb (register m 7) 64
+    && (eqb (register m 0 % 2) 0 && eqb (register m 1 % 2) 0 && ltb (register m 6) 64 && ltb (register m 7) 64)
+    && lineFits mode (m .line)

@@ -7,7 +7,7 @@ use Rattle.common.specs.declared.Mirroring.{Mirroring}
 use Rattle.common.specs.declared.Mirroring.the-variants.{Horizontal, Vertical}
 use Rattle.common.specs.declared.Mirrors.{Mirrors}
 use Rattle.common.specs.declared.Mirrors.the-variants.{AsBefore, As}
-use Rattle.mmc3.specs.Clock.{withIrq}
+use Rattle.mmc3.specs.Clock.{withIrq, withLine}
 use Rattle.mmc3.specs.declared.Mmc3.{Mmc3}
 use Rattle.mmc3.specs.declared.Move.{Move}
 use Rattle.mmc3.specs.declared.Move.the-variants.{Nothing, Select, Data, Screens, Latch, Reload, Enable, Disable}
@@ -34,7 +34,7 @@ dataBits select v = cond (ltb select 2) (v / 2 * 2) (cond (leb 6 select) (v % 64
 unfoldable pub applied : Move → Mmc3 → Mmc3
 applied Nothing m = m
 -- "bits 0-2 select, bit 6 PRG mode, bit 7 CHR mode"
-applied (Select v) m = record { select = v % 8; prgmode = v / 64 % 2; chrmode = v / 128 % 2; regs = m .regs; irq = m .irq }
+applied (Select v) m = record { select = v % 8; prgmode = v / 64 % 2; chrmode = v / 128 % 2; regs = m .regs; irq = m .irq; line = m .line }
 -- "data to the selected register"
 applied (Data v) m =
     record {
@@ -43,14 +43,16 @@ applied (Data v) m =
       chrmode = m .chrmode;
       regs = set (m .regs) (m .select) (dataBits (m .select) v);
       irq = m .irq;
+      line = m .line;
     }
 -- a mirroring is no register of this board
 applied (Screens v) m = m
--- "sets the latch"; "the reload mark"; "enables IRQ"; "disables"
+-- "sets the latch"; "the reload mark"; "enables IRQ", and M-101: "an odd write doesn't lower it"
 applied (Latch v) m = withIrq m (record { enabled = m .irq .enabled; latch = v; counter = m .irq .counter; reload = m .irq .reload })
 applied Reload m = withIrq m (record { enabled = m .irq .enabled; latch = m .irq .latch; counter = m .irq .counter; reload = true })
 applied Enable m = withIrq m (record { enabled = true; latch = m .irq .latch; counter = m .irq .counter; reload = m .irq .reload })
-applied Disable m = withIrq m (record { enabled = false; latch = m .irq .latch; counter = m .irq .counter; reload = m .irq .reload })
+-- M-101: "an even write to E000-FFFF, which lowers it and disables"
+applied Disable m = withLine (withIrq m (record { enabled = false; latch = m .irq .latch; counter = m .irq .counter; reload = m .irq .reload })) false
 
 -- "bit 0 set horizontal, else vertical"
 unfoldable pub screens : ℕ → Mirroring

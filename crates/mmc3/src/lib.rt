@@ -1,13 +1,13 @@
-// MMC3: eight bank registers, and a counter that asks for an interrupt. Ported from potatis nes/src/mappers/mmc3.rs.
+// MMC3: eight bank registers, a counter that asks for an interrupt, and board mode's line. Ported from potatis nes/src/mappers/mmc3.rs.
 ghost use mathlib.Core.Path.{_≡_};
 ghost use Prim.Native.Nat.{_/_};
 ghost use Rattle.places.specs.Windows.{landsIn, boardChr};
 ghost use Rattle.places.specs.Windows.Window.{Chr1K, Prg8K};
-ghost use Rattle.mmc3.specs.Clock.{at, houseClock, nextCounter, boardClock, clockIn, clocked, isPending};
+ghost use Rattle.mmc3.specs.Clock.{at, houseClock, nextCounter, boardClock, clockIn, lineAfter, clockAnswer, clocked, isPending};
 ghost use Rattle.mmc3.specs.Write.{moveOf, dataBits, applied, screens, mirrorsOf, written};
 ghost use Rattle.mmc3.specs.Read.{register, chrBank, lastBank, lastButOne, prgBank, readWindow, acknowledged, writeWindow};
 ghost use Rattle.mmc3.specs.Steps.{choice};
-ghost use Rattle.mmc3.specs.Range.{start, irqIsStart, isStart, fits};
+ghost use Rattle.mmc3.specs.Range.{start, irqIsStart, isStart, lineFits, fits};
 use banks::Bank1K;
 use banks::Bank8K;
 use cartridge::Cartridge;
@@ -33,9 +33,11 @@ pub struct Mmc3 {
     pub chrmode: u8,
     pub regs: [u8; 8],
     pub irq: Irq,
+    // The real board's interrupt line, which its unit raises. In house mode it is always low.
+    pub line: bool,
 }
 
-// The unit after a clock, and whether it asks for an interrupt.
+// The unit after a clock, and whether it raises the line; in house mode, whether an interrupt comes.
 pub struct Clocked {
     pub irq: Irq,
     pub answer: bool,
@@ -135,6 +137,35 @@ impl Irq {
         ensures { λ r. ⌜ r ≡ irqIsStart self ⌝ }
     {
         !self.enabled & (self.latch == 0) & (self.counter == 0) & !self.reload
+    }
+}
+
+// The real board's line stays up once it is raised; an even write to E000-FFFF lowers it.
+fn line_after(mode: Mode, line: bool, raised: bool) -> bool
+    ensures { λ r. ⌜ r ≡ lineAfter mode line raised ⌝ }
+{
+    match mode {
+        Mode::House => line,
+        Mode::Board => line | raised,
+    }
+}
+
+// The Rust answers what the unit does at this clock, the real board the level of its line.
+fn clock_answer(mode: Mode, level: bool, raised: bool) -> bool
+    ensures { λ r. ⌜ r ≡ clockAnswer mode level raised ⌝ }
+{
+    match mode {
+        Mode::House => raised,
+        Mode::Board => level,
+    }
+}
+
+fn line_fits(mode: Mode, line: bool) -> bool
+    ensures { λ r. ⌜ r ≡ lineFits mode line ⌝ }
+{
+    match mode {
+        Mode::House => !line,
+        Mode::Board => true,
     }
 }
 
@@ -245,10 +276,7 @@ impl Move {
                 mmc3.irq.enabled = true;
                 mmc3
             }
-            Move::Disable => {
-                mmc3.irq.enabled = false;
-                mmc3
-            }
+            Move::Disable => mmc3.disable(),
         }
     }
 
@@ -284,6 +312,7 @@ impl Mmc3 {
                 counter: 0,
                 reload: false,
             },
+            line: false,
         }
     }
 
@@ -300,15 +329,21 @@ impl Mmc3 {
             & (r[5] == 0)
             & (r[6] == 0)
             & (r[7] == 0);
-        (self.select == 0) & (self.prgmode == 0) & (self.chrmode == 0) & banks & irq.is_start()
+        (self.select == 0)
+            & (self.prgmode == 0)
+            & (self.chrmode == 0)
+            & banks
+            & !self.line
+            & irq.is_start()
     }
 
-    pub fn fits(self) -> bool
-        ensures { λ r. ⌜ r ≡ fits self ⌝ }
+    pub fn fits(self, mode: Mode) -> bool
+        ensures { λ r. ⌜ r ≡ fits mode self ⌝ }
     {
         let r = self.regs;
         let modes = (self.select < 8) & (self.prgmode < 2) & (self.chrmode < 2);
-        modes & (r[0] % 2 == 0) & (r[1] % 2 == 0) & (r[6] < 64) & (r[7] < 64)
+        let banks = (r[0] % 2 == 0) & (r[1] % 2 == 0) & (r[6] < 64) & (r[7] < 64);
+        modes & banks & line_fits(mode, self.line)
     }
 
     fn register(self, k: u8) -> u8
@@ -434,6 +469,15 @@ impl Mmc3 {
         next
     }
 
+    // It also acknowledges: the line goes low.
+    fn disable(mut self) -> Mmc3
+        ensures { λ r. ⌜ r ≡ applied Move.Disable self ⌝ }
+    {
+        self.irq.enabled = false;
+        self.line = false;
+        self
+    }
+
     pub fn write8(self, value: u8, address: u16) -> Wrote
         ensures { λ r. ⌜ r ≡ written self value address ⌝ }
     {
@@ -450,10 +494,12 @@ impl Mmc3 {
         let irq = self.irq;
         let c = irq.clock(mode);
         let next = c.irq;
+        let level = line_after(mode, self.line, c.answer);
         self.irq = next;
+        self.line = level;
         Ticked {
             mmc3: self,
-            answer: c.answer,
+            answer: clock_answer(mode, level, c.answer),
         }
     }
 }

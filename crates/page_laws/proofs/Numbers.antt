@@ -35,7 +35,7 @@ counts : (b : Board) → inRange b ≡ true → (b .cart .prg < 4096) × (b .car
 unfolding inRange
 counts b h =
     let c = b .cart in
-    let f = fields c (split-3 (couldLoad c) (fits (c .mapper) (b .registers)) (mirroringFits b) h .0) in
+    let f = fields c (split-3 (couldLoad c) (fits (c .mapper) (c .mode) (b .registers)) (mirroringFits b) h .0) in
     let e = counts-end-small (c .mode) (c .nes2) in
     (omega (arith, e, f .prg-small), omega (arith, e, f .chr-small))
 

@@ -110,9 +110,9 @@ mmc3-unused m h =
     let c : m .chrmode ≡ 0 = search (and-left, and-right, eqb-true) in
     search arith
 
-mmc3-small : (k : MapperType) (m : mmc3-type.Mmc3) → partFits k Mmc3 (mmc3.fits m) (mmc3.isStart m) ≡ true → Mmc3Small m
+mmc3-small : (k : MapperType) (mode : Mode) (m : mmc3-type.Mmc3) → partFits k Mmc3 (mmc3.fits mode m) (mmc3.isStart m) ≡ true → Mmc3Small m
 unfolding mmc3.fits
-mmc3-small k m = part (Mmc3Small m) k Mmc3 (λ (h : mmc3.fits m ≡ true). search (and-left, and-right, ltb-true)) (mmc3-unused m)
+mmc3-small k mode m = part (Mmc3Small m) k Mmc3 (λ (h : mmc3.fits mode m ≡ true). search (and-left, and-right, ltb-true)) (mmc3-unused m)
 
 -- both counts are below 4,096 where a load could leave them
 counts : (c : Cartridge) → couldLoad c ≡ true → (c .prg < 0x1000) × (c .chr < 0x1000)
@@ -136,7 +136,7 @@ in-rows b t h =
     let c = counts (b .cart) (search (and-left, and-right)) in
     let n = cnrom-small k (r .cnrom) (search (and-left, and-right)) in
     let o = mmc1-small k (r .mmc1) (search (and-left, and-right)) in
-    let m = mmc3-small k (r .mmc3) (search (and-left, and-right)) in
+    let m = mmc3-small k (b .cart .mode) (r .mmc3) (search (and-left, and-right)) in
     record {
       cart = search (arith, mode-small, mark-small, note-small, mapper-small, screens-small, c);
       banks = search (arith, n, o, t);

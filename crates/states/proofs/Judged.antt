@@ -39,7 +39,7 @@ use Rattle.boards.specs.Range.{screensFit, mirroringFits, inRange}
 use Rattle.boards.specs.Steps.{turnedFit, screensBy}
 use Rattle.boards.proofs.Screens.{by-two-tests}
 use Rattle.boards.specs.Registers.{partFits, fits}
-use Rattle.states.specs.Words.{mirroringDigit, mirroringOf, cartSizes, cartWord, mapperOf, cartOf, screensOf, banksSizes, banksDigits, banksWord, uxromOf, cnromOf, mmc1Of, regsWord, irqSizes, irqWord, mmc3Of, wordsOf, boardIn, same}
+use Rattle.states.specs.Words.{mirroringDigit, mirroringOf, cartSizes, cartWord, mapperOf, modeIn, cartOf, screensOf, banksSizes, banksDigits, banksWord, uxromOf, cnromOf, mmc1Of, regsWord, irqSizes, irqWord, mmc3Of, wordsOf, boardIn, same}
 use Rattle.states.specs.Kept.{isKept}
 use Rattle.states.specs.Steps.{cartIsKept, isInesWord, modeIsKept, mmc1IsKept, banksAreKept, mmc3Fits, mmc3IsKept, inParts}
 use Rattle.states.specs.declared.Words.{Words}
@@ -223,10 +223,10 @@ module _ (r q : ℕ) where
   m = mmc3Of (flatDigits bytes r) (flatDigits irqSizes q)
 
   -- by whether MMC3 is its own board's
-  mmc3-of : (t : Bool) → cond t (mmc3Fits m r q) (eqb r 0 && eqb q 0x1000000) ≡ (cond t (mmc3.fits m) (mmc3.isStart m) && eqb (regsWord (m .regs)) r && eqb (irqWord m) q)
+  mmc3-of : (mode : Mode) (t : Bool) → cond t (mmc3Fits mode m r q) (eqb r 0 && eqb q 0x1000000) ≡ (cond t (mmc3.fits mode m) (mmc3.isStart m) && eqb (regsWord (m .regs)) r && eqb (irqWord m) q)
   unfolding mmc3Fits mmc3.isStart mmc3.irqIsStart mmc3.start register
-  mmc3-of true = refl
-  mmc3-of false =
+  mmc3-of mode true = refl
+  mmc3-of mode false =
       both-ways (eqb r 0 && eqb q 0x1000000) _
       (λ h. rw (eqb-true r 0 (and-left (eqb r 0) (eqb q 0x1000000) h), eqb-true q 0x1000000 (and-right (eqb r 0) (eqb q 0x1000000) h)) refl)
       (λ h. let p = split-3 (mmc3.isStart m) (eqb (regsWord (m .regs)) r) (eqb (irqWord m) q) h in
@@ -244,7 +244,7 @@ in-parts w =
     let e = flatDigits banksSizes (w .banks) in
     let m = mmc3Of (flatDigits bytes (w .regs)) (flatDigits irqSizes (w .irq)) in
     let k = mapperOf d in
-    (λ j. cart-of (w .cart) (w .length) j && banks-of (w .banks) k j && mmc3-of (w .regs) (w .irq) (isMapper k Mmc3) j)
+    (λ j. cart-of (w .cart) (w .length) j && banks-of (w .banks) k j && mmc3-of (w .regs) (w .irq) (modeIn d) (isMapper k Mmc3) j)
     ∙ all (couldLoad (cartOf d (w .length))) (screensIn (cartOf d (w .length)) (screensOf d)) (eqb (cartWord (cartOf d (w .length)) (screensOf d)) (w .cart))
-    (fitsBanks k e) (eqb (wordOf e) (w .banks)) (partFits k Mmc3 (mmc3.fits m) (mmc3.isStart m)) (eqb (regsWord (m .regs)) (w .regs)) (eqb (irqWord m) (w .irq))
+    (fitsBanks k e) (eqb (wordOf e) (w .banks)) (partFits k Mmc3 (mmc3.fits (modeIn d) m) (mmc3.isStart m)) (eqb (regsWord (m .regs)) (w .regs)) (eqb (irqWord m) (w .irq))
     (eqb (w .length) (w .length)) (eq-eqb (w .length) (w .length) refl)

@@ -60,10 +60,12 @@ mmc3-start d e h =
     let latch = z 0 (search (and-left, and-right)) in
     let counter = z 1 (search (and-left, and-right)) in
     let reload = not-true (eqb (digit e 6) 1) (search (and-left, and-right)) in
+    let line = not-true (eqb (digit e 7) 1) (search (and-left, and-right)) in
     λ i. record {
       select = select i;
       prgmode = prgmode i;
       chrmode = chrmode i;
       regs = regs i;
       irq = record { enabled = enabled i; latch = latch i; counter = counter i; reload = reload i };
+      line = line i;
     }

@@ -5,6 +5,7 @@ use lib.Dec.{eqb, ltb, leb}
 use Rattle.rules.specs.Rows.{bytes, digit}
 use Rattle.rules.specs.Flat.{flatDigits}
 use Rattle.common.specs.declared.Mirroring.{Mirroring}
+use Rattle.common.specs.declared.Mode.{Mode}
 use Rattle.common.specs.declared.Mode.the-variants.{Board as OnBoard}
 use Rattle.cartridge.specs.Load.{badPrg, needed, noPowers}
 use Rattle.cartridge.specs.Mappers.{isMapper, mapperNumber}
@@ -17,7 +18,7 @@ use Rattle.mmc3.specs.Range as mmc3
 use Rattle.mmc3.specs.declared.Mmc3 as mmc3-type
 use Rattle.boards.specs.Steps.{turnedFit}
 use Rattle.boards.specs.declared.Board.{Board}
-use Rattle.states.specs.Words.{mirroringDigit, cartSizes, mapperOf, banksSizes, banksWord, uxromOf, cnromOf, mmc1Of, regsWord, irqSizes, irqWord, mmc3Of}
+use Rattle.states.specs.Words.{mirroringDigit, cartSizes, mapperOf, modeIn, banksSizes, banksWord, uxromOf, cnromOf, mmc1Of, regsWord, irqSizes, irqWord, mmc3Of}
 use Rattle.states.specs.declared.Words.{Words}
 
 -- the first word, in either mode: version 1, this mapper, PRG RAM or none, nothing above the CHR count, a header's mirroring, and counts that the board takes and the image has
@@ -58,17 +59,17 @@ banksAreKept Cnrom b = eqb (banksWord uxrom.start (cnromOf (flatDigits banksSize
 banksAreKept Mmc3 b = eqb b 0
 
 -- MMC3's in their ranges, and packed again the same two words
-unfoldable pub mmc3Fits : mmc3-type.Mmc3 → ℕ → ℕ → Bool
-mmc3Fits m r q = mmc3.fits m && eqb (regsWord (m .regs)) r && eqb (irqWord m) q
+unfoldable pub mmc3Fits : Mode → mmc3-type.Mmc3 → ℕ → ℕ → Bool
+mmc3Fits mode m r q = mmc3.fits mode m && eqb (regsWord (m .regs)) r && eqb (irqWord m) q
 
 -- or, on another board, at their start: all 0 but for RAM, which is enabled
-unfoldable pub mmc3IsKept : MapperType → ℕ → ℕ → Bool
-mmc3IsKept k r q =
-    cond (isMapper k Mmc3) (mmc3Fits (mmc3Of (flatDigits bytes r) (flatDigits irqSizes q)) r q) (eqb r 0 && eqb q 0x1000000)
+unfoldable pub mmc3IsKept : MapperType → ℕ → ℕ → ℕ → Bool
+mmc3IsKept k c r q =
+    cond (isMapper k Mmc3) (mmc3Fits (modeIn (flatDigits cartSizes c)) (mmc3Of (flatDigits bytes r) (flatDigits irqSizes q)) r q) (eqb r 0 && eqb q 0x1000000)
 
 -- all four parts
 abbrev pub fitsOn : MapperType → Words → Bool
-fitsOn k w = cartIsKept k (w .cart) (w .length) && modeIsKept k (w .cart) && banksAreKept k (w .banks) && mmc3IsKept k (w .regs) (w .irq)
+fitsOn k w = cartIsKept k (w .cart) (w .length) && modeIsKept k (w .cart) && banksAreKept k (w .banks) && mmc3IsKept k (w .cart) (w .regs) (w .irq)
 
 -- on the board that the words name
 abbrev pub inParts : Words → Bool

@@ -7,6 +7,7 @@ use mir.Val.{boolByte}
 use Rattle.rules.specs.Rows.{digit, bytes}
 use Rattle.rules.specs.Flat.{flatWord, flatDigits}
 use Rattle.common.specs.Common.{modeNumber, modeOf}
+use Rattle.common.specs.declared.Mode.{Mode}
 use Rattle.common.specs.declared.Mirroring.{Mirroring}
 use Rattle.common.specs.declared.Mirroring.the-variants.{Horizontal, Vertical, SingleScreenUpper, SingleScreenLower}
 use Rattle.cartridge.specs.Mappers.{mapperNumber, mapperType}
@@ -50,11 +51,15 @@ cartWord c m = flatWord cartSizes (cartDigits c m)
 abbrev pub mapperOf : List ℕ → MapperType
 mapperOf d = mapperType (digit d 1)
 
+-- what they say of the mode
+abbrev pub modeIn : List ℕ → Mode
+modeIn d = modeOf (digit d 2)
+
 -- what these digits say of the cartridge; word 1 is the image's length
 abbrev pub cartOf : List ℕ → ℕ → Cartridge
 cartOf d length =
     record {
-      mode = modeOf (digit d 2);
+      mode = modeIn d;
       mapper = mapperOf d;
       nes2 = eqb (digit d 3) 1;
       mirroring = mirroringOf (digit d 4);
@@ -111,10 +116,11 @@ regsWord r = flatWord bytes (regsDigits r)
 abbrev pub irqSizes : List ℕ
 irqSizes = 0x100 ∷ 0x100 ∷ 8 ∷ 2 ∷ 2 ∷ 2 ∷ 2 ∷ 2 ∷ 2 ∷ 2 ∷ []
 
--- the line and RAM's two marks are reserved: low, enabled and writable
+-- RAM's two marks are reserved: enabled and writable
 abbrev pub irqDigits : Mmc3 → List ℕ
 irqDigits m =
-    m .irq .latch ∷ m .irq .counter ∷ m .select ∷ m .prgmode ∷ m .chrmode ∷ boolByte (m .irq .enabled) ∷ boolByte (m .irq .reload) ∷ 0 ∷ 1 ∷ 0 ∷ []
+    m .irq .latch ∷ m .irq .counter ∷ m .select ∷ m .prgmode ∷ m .chrmode ∷ boolByte (m .irq .enabled) ∷ boolByte (m .irq .reload) ∷ boolByte (m .line) ∷ 1 ∷ 0
+    ∷ []
 
 -- word 4 of the rest of MMC3
 abbrev pub irqWord : Mmc3 → ℕ
@@ -129,6 +135,7 @@ mmc3Of r q =
       chrmode = digit q 4;
       regs = regsDigits r;
       irq = record { enabled = eqb (digit q 5) 1; latch = digit q 0; counter = digit q 1; reload = eqb (digit q 6) 1 };
+      line = eqb (digit q 7) 1;
     }
 
 -- the words of a board

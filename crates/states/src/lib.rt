@@ -6,7 +6,7 @@ ghost use Rattle.rules.specs.Rows.{bytes, digit};
 ghost use Rattle.rules.specs.Flat.{flatWord, flatDigits};
 ghost use Rattle.common.specs.declared.Mode.the-variants.{Board as OnBoard};
 ghost use Rattle.cartridge.specs.Load.{noPowers};
-ghost use Rattle.states.specs.Words.{mirroringOf, mirroringDigit, cartSizes, banksSizes, irqSizes, cartWord, banksWord, regsWord, irqWord, wordsOf, mapperOf, cartOf, screensOf, uxromOf, cnromOf, mmc1Of, mmc3Of, registersOf, boardIn, digitsOf};
+ghost use Rattle.states.specs.Words.{mirroringOf, mirroringDigit, cartSizes, banksSizes, irqSizes, cartWord, banksWord, regsWord, irqWord, wordsOf, mapperOf, modeIn, cartOf, screensOf, uxromOf, cnromOf, mmc1Of, mmc3Of, registersOf, boardIn, digitsOf};
 ghost use Rattle.states.specs.Steps.{cartIsKept, isInesWord, modeIsKept, mmc1IsKept, banksAreKept, mmc3Fits, mmc3IsKept, afterClock, withScreens, afterWrite};
 use boards::Board;
 use boards::Registers;
@@ -116,7 +116,7 @@ fn regs_row(r0: u8, r1: u8, r2: u8, r3: u8, r4: u8, r5: u8, r6: u8, r7: u8) -> u
         + (r7 as u64) * 0x100_0000_0000_0000
 }
 
-// The line is low, and RAM enabled and writable.
+// RAM is enabled and writable.
 fn irq_row(
     latch: u8,
     counter: u8,
@@ -125,8 +125,9 @@ fn irq_row(
     chrmode: u8,
     enabled: u8,
     reload: u8,
+    line: u8,
 ) -> u64
-    ensures { λ r. ⌜ r ≡ flatWord irqSizes (latch ∷ counter ∷ select ∷ prgmode ∷ chrmode ∷ enabled ∷ reload ∷ 0 ∷ 1 ∷ 0 ∷ []) ⌝ }
+    ensures { λ r. ⌜ r ≡ flatWord irqSizes (latch ∷ counter ∷ select ∷ prgmode ∷ chrmode ∷ enabled ∷ reload ∷ line ∷ 1 ∷ 0 ∷ []) ⌝ }
 {
     (latch as u64)
         + (counter as u64) * 0x100
@@ -135,6 +136,7 @@ fn irq_row(
         + (chrmode as u64) * 0x10_0000
         + (enabled as u64) * 0x20_0000
         + (reload as u64) * 0x40_0000
+        + (line as u64) * 0x80_0000
         + 0x100_0000
 }
 
@@ -192,6 +194,7 @@ fn irq_word(mmc3: Mmc3) -> u64
         mmc3.chrmode,
         irq.enabled as u8,
         irq.reload as u8,
+        mmc3.line as u8,
     )
 }
 
@@ -274,11 +277,17 @@ pub fn mapper_in(c: u64) -> MapperType
     MapperType::numbered((c / 0x100 % 0x100) as u16)
 }
 
+fn mode_in(c: u64) -> Mode
+    ensures { λ r. ⌜ r ≡ modeIn (flatDigits cartSizes c) ⌝ }
+{
+    Mode::numbered((c / 0x1_0000 % 2) as u8)
+}
+
 pub fn cart_in(c: u64, length: u64) -> Cartridge
     ensures { λ r. ⌜ r ≡ cartOf (flatDigits cartSizes c) length ⌝ }
 {
     Cartridge {
-        mode: Mode::numbered((c / 0x1_0000 % 2) as u8),
+        mode: mode_in(c),
         mapper: mapper_in(c),
         nes2: c / 0x2_0000 % 2 == 1,
         mirroring: mirroring_of(c / 0x4_0000 % 4),
@@ -353,6 +362,7 @@ pub fn mmc3_in(r: u64, q: u64) -> Mmc3
             counter: (q / 0x100 % 0x100) as u8,
             reload: q / 0x40_0000 % 2 == 1,
         },
+        line: q / 0x80_0000 % 2 == 1,
     }
 }
 
@@ -447,21 +457,22 @@ fn mmc1_is_kept(b: u64) -> bool
     mmc1.fits() & (banks_word(Uxrom::new(), Cnrom::new(), mmc1) == b)
 }
 
-pub fn mmc3_is_kept(mapper: MapperType, r: u64, q: u64) -> bool
-    ensures { λ n. ⌜ n ≡ mmc3IsKept mapper r q ⌝ }
+// In house mode the line is low: the first word says the mode.
+pub fn mmc3_is_kept(mapper: MapperType, c: u64, r: u64, q: u64) -> bool
+    ensures { λ n. ⌜ n ≡ mmc3IsKept mapper c r q ⌝ }
 {
     if mapper.is(MapperType::Mmc3) {
-        mmc3_fits(mmc3_in(r, q), r, q)
+        mmc3_fits(mode_in(c), mmc3_in(r, q), r, q)
     } else {
         (r == 0) & (q == 0x100_0000)
     }
 }
 
-fn mmc3_fits(mmc3: Mmc3, r: u64, q: u64) -> bool
-    ensures { λ n. ⌜ n ≡ mmc3Fits mmc3 r q ⌝ }
+fn mmc3_fits(mode: Mode, mmc3: Mmc3, r: u64, q: u64) -> bool
+    ensures { λ n. ⌜ n ≡ mmc3Fits mode mmc3 r q ⌝ }
 {
     let regs = mmc3.regs;
-    mmc3.fits() & (regs_word(regs) == r) & (irq_word(mmc3) == q)
+    mmc3.fits(mode) & (regs_word(regs) == r) & (irq_word(mmc3) == q)
 }
 
 // The digits of all five words, in the order of docs/ABI.md.

@@ -3,6 +3,8 @@
 
 pub mod reading;
 
+use std::cell::Cell;
+
 use biekkarul::{Board, Digit, Digits, Mode, DIGITS, RAM_LENGTH, STATE_LENGTH};
 
 pub const HEADER: usize = 16;
@@ -60,6 +62,27 @@ pub fn data(place: usize) -> u8 {
 
 pub fn load(byte6: u8, prg: u8, chr: u8, mode: Mode) -> Board {
     Board::load(image(byte6, prg, chr), mode).expect("a good image")
+}
+
+/// Bytes of which a part can be taken away while a board has them.
+pub struct Shifting {
+    bytes: Vec<u8>,
+    pub length: Cell<usize>,
+}
+
+impl Shifting {
+    pub fn new(bytes: Vec<u8>) -> Shifting {
+        Shifting {
+            length: Cell::new(bytes.len()),
+            bytes,
+        }
+    }
+}
+
+impl AsRef<[u8]> for Shifting {
+    fn as_ref(&self) -> &[u8] {
+        &self.bytes[..self.length.get()]
+    }
 }
 
 /// All that a refused call must leave as it was.

@@ -6,4 +6,4 @@ use Rattle.mmc3.proofs.Mmc3.clock.Tie as tie
 
 pub clock-spec : {M : Type 1} → statement M
 unfolding clocked withIrq
-clock-spec = tie.close (tie.spec (λ c κs. search picks) (λ c. cc))
+clock-spec = tie.close (tie.spec (λ c κs. search picks) (λ c κs. search picks) (λ c κs. search picks) (λ c. cc))

@@ -7,4 +7,5 @@ use Rattle.mmc3.proofs.Mmc3.fits.Tie as tie
 
 pub fits-spec : {M : Type 1} → statement M
 unfolding fits register
-fits-spec = tie.close (tie.spec (λ c. search picks) (λ c. search picks) (λ c. search picks) (λ c. search picks) (λ c. cc))
+fits-spec = tie.close (tie.spec (λ c. search picks) (λ c. search picks) (λ c. search picks) (λ c. search picks) (λ c κs. search picks)
+    (λ c. simp (c .line-fits .ensures)))

@@ -12,5 +12,5 @@ applied-spec =
     (tie.spec
     (λ c. search picks) (λ c. search picks) (λ c κs. search picks) (λ c. search picks) (λ c κs. search picks)
     (λ c. search picks) (λ c. search picks) (λ c. search picks) (λ c. search picks) (λ c. search picks)
-    (λ c. cc) (λ c. cc) (λ c. cc) (λ c. cc) (λ c. cc)
+    (λ c κs. search picks) (λ c. cc) (λ c. cc) (λ c. cc) (λ c. cc) (λ c. cc)
     (λ c. cc) (λ c. cc) (λ c. cc))
