@@ -8,7 +8,7 @@
  * is the one loaded. That is all that a caller owes: every length, every byte, every mode and every address is
  * taken.
  *
- * Every answer is a number below 256, or 256 + N for refusal N; biekkarul_write_moved has two bits above it.
+ * Every answer is a number below 256, or 256 + N for refusal N; biekkarul_write_moved has three bits above it.
  * After a refusal every lent buffer holds what it held. No function keeps a pointer or has a state of its own, so
  * calls on different boards may run on different threads.
  */
@@ -23,7 +23,7 @@ extern "C" {
 #endif
 
 /* The version of the calls that this header declares; biekkarul_version() answers the library's. */
-#define BIEKKARUL_VERSION 4
+#define BIEKKARUL_VERSION 5
 
 /* Lengths of the lent buffers, in bytes. */
 #define BIEKKARUL_STATE_LENGTH 40  /* a board */
@@ -67,6 +67,7 @@ extern "C" {
 /* Which pages a write may have moved, in the answer of biekkarul_write_moved. */
 #define BIEKKARUL_CHR_MOVED 0x10000u /* 0 to 7, of reads and of writes */
 #define BIEKKARUL_PRG_MOVED 0x20000u /* 32 to 63, of reads */
+#define BIEKKARUL_RAM_MOVED 0x40000u /* 24 to 31, of reads and of writes: MMC3 in board mode only */
 
 /* Whether an answer is a refusal, and its number; what biekkarul_write_moved says above it is left aside. */
 #define BIEKKARUL_IS_REFUSED(answer) (((answer) & 0xFFFFu) >= 256)
@@ -129,8 +130,8 @@ enum biekkarul_digit {
     BIEKKARUL_DIGIT_MMC3_IRQ_ENABLED,
     BIEKKARUL_DIGIT_MMC3_RELOAD,
     BIEKKARUL_DIGIT_MMC3_IRQ_LINE, /* 1 up, 0 low: the level, without a clock; up on MMC3 in board mode only */
-    BIEKKARUL_DIGIT_RAM_ENABLED,
-    BIEKKARUL_DIGIT_RAM_WRITES_DENIED
+    BIEKKARUL_DIGIT_RAM_ENABLED,      /* 1; 0 where PRG RAM reads 0 and ignores writes: on MMC3 in board mode only */
+    BIEKKARUL_DIGIT_RAM_WRITES_DENIED /* 0; 1 where PRG RAM ignores writes: on MMC3 in board mode only */
 };
 
 /*
@@ -172,7 +173,9 @@ uint16_t biekkarul_read(const uint8_t *state, size_t state_length,
                         uint16_t address);
 
 /*
- * Writes a byte at an address; the state and the RAMs become the next ones.
+ * Writes a byte at an address; the state and the RAMs become the next ones. On MMC3 in board mode a write to an odd
+ * address of A000-BFFF locks and unlocks PRG RAM, by bits 7 (enabled) and 6 (writes denied): docs/ABI.md, "PRG RAM's
+ * protection".
  * Answers the letter of a notice, or 0. Refusals, the first that applies: 9, 10 (as in a read), then 12, 13
  * or 14 of the board.
  */
@@ -201,7 +204,7 @@ uint16_t biekkarul_digits(const uint8_t *state, size_t state_length,
  * Where pages are read from and where writes to them go, by the state alone: reads[i] and writes[i] are of page
  * first + i, whose first address is (first + i) * 1024. The lengths count numbers; either may be 0, with a pointer
  * that is not null. From then on a caller reads and writes its own bytes, until a write moves a page:
- * biekkarul_write_moved says which. Pages 8 to 31, and the writes' 32 to 63, stay as long as the image is loaded; a
+ * biekkarul_write_moved says which. Pages 8 to 23, and the writes' 32 to 63, stay as long as the image is loaded; a
  * clock moves none; a load, a power cycle or another state makes all anew. Offsets lie in an image of the length that
  * the state has as BIEKKARUL_DIGIT_IMAGE_LENGTH.
  * Answers 0. Refused with 10 when the state is out of range, or when first and a length are above 64 together.
@@ -212,8 +215,8 @@ uint16_t biekkarul_pages(const uint8_t *state, size_t state_length, uint8_t firs
 
 /*
  * A write that also says which pages it may have moved: all that biekkarul_write does, and its answer in the low 16
- * bits. BIEKKARUL_CHR_MOVED and BIEKKARUL_PRG_MOVED are set above it just where a register that those pages hang on
- * holds another value than before; a refused write sets neither.
+ * bits. BIEKKARUL_CHR_MOVED, BIEKKARUL_PRG_MOVED and BIEKKARUL_RAM_MOVED are set above it just where a register
+ * or a mark that those pages hang on holds another value than before; a refused write sets none.
  */
 uint32_t biekkarul_write_moved(uint8_t *state, size_t state_length,
                                const uint8_t *image, size_t image_length,

@@ -1,6 +1,6 @@
 #!/usr/bin/env bash
 # tracerun on traces of every board, and on inputs that are no trace. The expected answers are worked out by hand from
-# document 01 and from M-100 and M-101 of document 02. Runs after `rt ci`, which leaves target/bin/tracerun.
+# document 01 and from M-100, M-101 and M-111 of document 02. Runs after `rt ci`, which leaves target/bin/tracerun.
 set -uo pipefail
 source "$(dirname "${BASH_SOURCE[0]}")/need.bash" || exit 2
 cd "$(dirname "${BASH_SOURCE[0]}")/.." || exit 2
@@ -108,6 +108,16 @@ plays "house MMC3: the same calls, and yes at single clocks" 00 "$dir/mmc3" "$ac
 plays "board MMC3: with latch 0 any clock raises the line, but not while disabled" 01 "$dir/mmc3" \
   "$(W C000=00)$(W C001=00)$(W E001=00)$(C)$(C)$(W FFFE=FF)$(C)$(W E001=00)$(C)" \
   "load 4 V 1 1" "W -" "W -" "W -" "C 1" "C 1" "W -" "C 0" "W -" "C 1"
+# a byte in PRG RAM; disabled (00), read, written; open again (80), read; denied (C0), read, written, read; disabled and denied (7F), an
+# even write, read; open (BF), written at its other end, and both ends read
+protected="$(W 6000=5A)$(W A001=00)$(R 6000)$(W 6000=33)$(W A001=80)$(R 6000)"
+protected+="$(W BFFF=C0)$(R 6000)$(W 6000=44)$(R 6000)$(W B001=7F)$(W A000=80)$(R 6000)$(W A001=BF)$(W 7FFF=55)$(R 6000 7FFF)"
+plays "board MMC3: disabled RAM reads 0, disabled or denied RAM ignores writes" 01 "$dir/mmc3" "$protected" \
+  "load 4 V 1 1" "W -" "W -" "R 00" "W -" "W -" "R 5A" "W -" "R 5A" "W -" "R 5A" "W -" "W -" "R 00" "W -" "W -" "R 5A" "R 55"
+plays "house MMC3: the same calls, and RAM is enabled and writable" 00 "$dir/mmc3" "$protected" \
+  "load 4 V 1 1" "W -" "W -" "R 5A" "W -" "W -" "R 33" "W -" "R 33" "W -" "R 44" "W -" "W -" "R 44" "W -" "W -" "R 44" "R 55"
+plays "board MMC1: the same calls are bits and resets of its serial register" 01 "$dir/mmc1" "$protected" \
+  "load 1 V 2 0" "W -" "W -" "R 5A" "W -" "W -" "R 33" "W -" "R 33" "W -" "R 44" "W -" "W -" "R 44" "W -" "W -" "R 44" "R 55"
 plays "house MMC3: notices against the header's, refusal 14" 00 "$dir/mmc3" \
   "$(W A000=01)$(W A000=01)$(W A000=00)$(W E001=00)$(W E000=00)$(R 8000)" \
   "load 4 V 1 1" "W H" "W H" "W -" "W -" "W !14" "R 00"
@@ -128,6 +138,8 @@ plays "board MMC1 with PRG RAM by its high nibble" 01 "$dir/mmc1-with-ram" "$ram
   "load 1 V 2 0" "W -" "R 99" "W -" "R 98" "W -" "R 5A" "R 10"
 plays "board MMC3 without PRG RAM" 01 "$dir/mmc3-without-ram" "$ram" \
   "load 4 V 1 1" "W -" "R 00" "W -" "R 00" "W -" "R C0" "R 10"
+plays "board MMC3 without PRG RAM: the marks change nothing" 01 "$dir/mmc3-without-ram" "$protected" \
+  "load 4 V 1 1" "W -" "W -" "R 00" "W -" "W -" "R 00" "W -" "R 00" "W -" "R 00" "W -" "W -" "R 00" "W -" "W -" "R 00" "R 00"
 plays "house MMC1 has PRG RAM, whatever byte 10 says" 00 "$dir/mmc1-without-ram" "$ram" \
   "load 1 V 2 0" "W -" "R 99" "W -" "R 98" "W -" "R 5A" "R 10"
 plays "house mode counts by bytes 4 and 5 alone, PRG" 00 "$dir/prg-257" "$(R 8000 0000)" "load 2 H 1 1" "R 10" "R C0"

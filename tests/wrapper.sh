@@ -79,6 +79,13 @@ says() {
   [ "$got" -eq "$status" ] && grep -qxF -- "$line" "$work/out"
 }
 
+# says_nothing WORDS NAME ARGUMENT..: an example succeeds, and these words are not in what it says
+says_nothing() {
+  local words=$1
+  shift
+  example "$@" >"$work/out" 2>&1 && cat "$work/out" && ! grep -qF -- "$words" "$work/out"
+}
+
 image() { # image PRG CHR BYTE6 LENGTH: zeros behind a header
   printf "NES\\x1a\\x$1\\x$2\\x$3"
   head -c $(($4 - 7)) /dev/zero
@@ -90,10 +97,34 @@ inspected() {
   says "$3" "$1 mode: $2" inspect "$work/game.nes"
 }
 
-# clocked LINE EVENTS: a line about a trace of MMC3 with these three events, as hex
-clocked() {
-  { printf '\x01\0\0\x40\x10\0'; image 01 00 40 16400; printf '\0\x03'; printf "\\x${2// /\\x}"; } >"$work/clocked"
-  says 0 "$1" inspect "$work/clocked"
+# traced LINE EVENTS: a line about a trace of MMC3 with these three events, as hex
+traced() {
+  { printf '\x01\0\0\x40\x10\0'; image 01 00 40 16400; printf '\0\x03'; printf "\\x${2// /\\x}"; } >"$work/traced"
+  says 0 "$1" inspect "$work/traced"
+}
+
+with_bytes() { # with_bytes PLACE=HEX..: standard input with other bytes at these places
+  local byte
+  cat >"$work/changed"
+  for byte; do
+    printf "\\x${byte#*=}" | dd of="$work/changed" bs=1 seek="${byte%=*}" conv=notrunc status=none
+  done
+  cat "$work/changed"
+}
+
+summed() { # the snapshot on standard input with the check sum that fits its bytes: 64-bit FNV-1a
+  local byte place sum=$((0xCBF29CE484222325))
+  head -c 16444 >"$work/unsummed"
+  for byte in $(od -An -v -tu1 "$work/unsummed"); do sum=$(((sum ^ byte) * 0x100000001B3)); done
+  cat "$work/unsummed"
+  for place in {0..7}; do printf "\\x$(printf %02x $((sum >> 8 * place & 255)))"; done
+}
+
+# locked LINE MARKS [BYTE2]: a line about the sample's board as one of board mode, whose screens are back at the header's,
+# with these marks of PRG RAM, and with another byte 2 of its state where one is said
+locked() {
+  with_bytes 9=01 10=56 "22=${3:-55}" "55=$2" <"$sample.snapshot" | summed >"$work/locked"
+  says 0 "$1" inspect "$work/locked"
 }
 
 marked() { # marked PRG CHR BYTE6 BYTE8 BYTE9 BYTE10 BYTE11 LENGTH: the same, marked NES 2.0
@@ -332,10 +363,18 @@ step "inspect: where the modes part" says 0 "the modes part at event 6 (write A0
 # A reload of latch 0, IRQ enabled, and a clock: only board mode answers yes. The same with latch 1 and no reload: only house.
 board_yes="01 C0 01 00 01 E0 01 00 02 00 00 00"
 house_yes="01 C0 00 01 01 E0 01 00 02 00 00 00"
-step "inspect: a clock without an IRQ" clocked "  house  C 0     no IRQ" "$board_yes"
-step "inspect: a clock after which the line is up" clocked "  board  C 1     the IRQ line is up" "$board_yes"
-step "inspect: a clock with an IRQ" clocked "  house  C 1     an IRQ" "$house_yes"
-step "inspect: a clock after which the line is low" clocked "  board  C 0     the IRQ line is low" "$house_yes"
+step "inspect: a clock without an IRQ" traced "  house  C 0     no IRQ" "$board_yes"
+step "inspect: a clock after which the line is up" traced "  board  C 1     the IRQ line is up" "$board_yes"
+step "inspect: a clock with an IRQ" traced "  house  C 1     an IRQ" "$house_yes"
+step "inspect: a clock after which the line is low" traced "  board  C 0     the IRQ line is low" "$house_yes"
+# A byte that is written before the lock, and one that is written after it.
+step "inspect: a byte of disabled PRG RAM" traced "  board  R 00    the byte 00; PRG RAM is disabled" \
+  "01 60 00 2A 01 A0 01 00 00 60 00 00"
+step "inspect: the same in house mode" traced "  house  R 2A    the byte 2A" "01 60 00 2A 01 A0 01 00 00 60 00 00"
+step "inspect: a byte that PRG RAM did not take" traced "  board  R 00    the byte 00; PRG RAM is enabled, writes denied" \
+  "01 BF FF C0 01 7F FF 2A 00 7F FF 00"
+step "inspect: PRG RAM that is enabled again" traced "both modes give the same answers to 3 events" \
+  "01 BF FF 40 01 BF FF 80 00 60 00 00"
 step "inspect: a truncated trace" says 1 \
   "'$work/truncated' begins as a trace and is malformed at byte 6: the image has 24592 bytes, but only 994 bytes are left" \
   inspect "$work/truncated"
@@ -343,7 +382,14 @@ step "inspect: a truncated trace" says 1 \
 step "inspect: a snapshot" says 0 "'$sample.snapshot' is a snapshot in house mode" inspect "$sample.snapshot"
 step "inspect: a snapshot's registers" says 0 \
   "  registers     Mmc3(Mmc3Registers { banks: [0, 0, 8, 0, 0, 0, 0, 0], select: 2, prg_mode: 0, chr_mode: 0, latch: 1, \
-counter: 1, irq_enabled: true, reload: false, irq_line: false })" inspect "$sample.snapshot"
+counter: 1, irq_enabled: true, reload: false, irq_line: false, ram_enabled: true, ram_writes_denied: false })" \
+  inspect "$sample.snapshot"
+step "inspect: a snapshot in house mode says nothing of locks" says_nothing "PRG RAM" inspect "$sample.snapshot"
+step "inspect: PRG RAM that is not locked" locked "  PRG RAM       enabled, writes taken" 01
+step "inspect: PRG RAM that takes no writes" locked "  PRG RAM       enabled, writes denied" 03
+step "inspect: PRG RAM that is disabled" locked "  PRG RAM       disabled" 00
+step "inspect: PRG RAM with both marks" locked "  PRG RAM       disabled, writes denied" 02
+step "inspect: marks of PRG RAM that is not there" locked "  PRG RAM       none" 03 17 # marked NES 2.0, without PRG RAM
 step "inspect: a damaged snapshot" says 1 \
   "'$work/damaged' begins as a snapshot, and the snapshot is damaged: its check sum does not fit its bytes" \
   inspect "$work/damaged"

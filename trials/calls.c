@@ -193,6 +193,8 @@ static struct numbers map;
 static unsigned stale, turn;
 
 #define CHR_PAGES 8u
+#define FIRST_RAM_PAGE 24u
+#define RAM_PAGES 8u
 #define FIRST_PRG_PAGE 32u
 #define ALL_STALE 1u
 
@@ -207,6 +209,7 @@ static void refill(void) {
     if (stale & ALL_STALE) fill(0, BIEKKARUL_PAGES, BIEKKARUL_PAGES);
     if (stale & BIEKKARUL_CHR_MOVED) fill(0, CHR_PAGES, CHR_PAGES);
     if (stale & BIEKKARUL_PRG_MOVED) fill(FIRST_PRG_PAGE, BIEKKARUL_PAGES - FIRST_PRG_PAGE, 0);
+    if (stale & BIEKKARUL_RAM_MOVED) fill(FIRST_RAM_PAGE, RAM_PAGES, RAM_PAGES);
     stale = 0;
 }
 

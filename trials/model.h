@@ -1,7 +1,8 @@
 /*
- * The boards once more: document 01, and M-100, M-101 and M-104 of document 02, read a second time and written plainly in
- * C, with no eye to speed and none to the library's code. The trials hold the library's answers, its states and both RAMs
- * to it, and so do the tests of the wrapper for Rust (through play.c). Answers and digits are numbers as in biekkarul.h.
+ * The boards once more: document 01, and M-100, M-101, M-104 and M-111 of document 02, read a second time and written
+ * plainly in C, with no eye to speed and none to the library's code. The trials hold the library's answers, its states and
+ * both RAMs to it, and so do the tests of the wrapper for Rust (through play.c). Answers and digits are numbers as in
+ * biekkarul.h.
  */
 #ifndef TRIALS_MODEL_H
 #define TRIALS_MODEL_H
@@ -29,6 +30,7 @@ struct model {
     unsigned selected, r[8], mmc3_prg_mode, mmc3_chr_mode;
     unsigned latch, counter, reload, enabled;
     unsigned line; /* M-101: 1 up, 0 low; "always low in house mode and on other boards" */
+    unsigned ram_enabled, ram_denied; /* M-111: "Every board record gains the two marks" */
     uint8_t prg_ram[BIEKKARUL_RAM_LENGTH], chr_ram[BIEKKARUL_RAM_LENGTH];
 };
 
@@ -134,6 +136,7 @@ static void model_load(struct model *m, const uint8_t *image, size_t length, uns
     m->image_length = length;
     m->header_mirroring = m->mirroring = image[6] & 1 ? BIEKKARUL_VERTICAL : BIEKKARUL_HORIZONTAL;
     if (m->mapper == MMC1) m->mmc1_prg_mode = 3;
+    m->ram_enabled = 1; /* M-111: "We start it enabled and writable" */
 }
 
 /* Where the bank of a number starts in data of a length: house refuses a bank past the data, the board takes it modulo. */
@@ -220,6 +223,11 @@ static int is_ram_board(const struct model *m) { return m->mapper == MMC1 || m->
 
 static int has_prg_ram(const struct model *m) { return m->prg_ram_there && is_ram_board(m); }
 
+/* M-111: "Disabled RAM reads 0; disabled or denied RAM ignores writes." */
+static int shows_prg_ram(const struct model *m) { return has_prg_ram(m) && m->ram_enabled; }
+
+static int stores_prg_ram(const struct model *m) { return shows_prg_ram(m) && !m->ram_denied; }
+
 static unsigned model_read(const struct model *m, const uint8_t *image, unsigned address) {
     unsigned bank, size;
     if (no_such_place(m, address)) return REFUSED(13);
@@ -231,7 +239,7 @@ static unsigned model_read(const struct model *m, const uint8_t *image, unsigned
         bank = chr_bank(m, address, &size);
         return chr_byte(m, image, size, bank, address % size);
     }
-    return address >= 0x6000 && has_prg_ram(m) ? m->prg_ram[address - 0x6000] : 0;
+    return address >= 0x6000 && shows_prg_ram(m) ? m->prg_ram[address - 0x6000] : 0;
 }
 
 static unsigned notice(struct model *m, unsigned mirroring) {
@@ -269,6 +277,13 @@ static unsigned mmc1_serial(struct model *m, unsigned address, unsigned value) {
     return mmc1_register(m, address, bits);
 }
 
+/* M-111: "In board mode an odd write to A000-BFFF sets" both marks. In house mode "they stay". */
+static void mark_ram(struct model *m, unsigned enabled, unsigned denied) {
+    if (!m->board_mode) return;
+    m->ram_enabled = enabled;
+    m->ram_denied = denied;
+}
+
 static unsigned mmc3_register(struct model *m, unsigned address, unsigned value) {
     unsigned odd = address % 2;
     switch (address / 0x2000 * 2 + odd) {
@@ -279,6 +294,7 @@ static unsigned mmc3_register(struct model *m, unsigned address, unsigned value)
         break;
     case 9: m->r[m->selected] = m->selected < 2 ? value & ~1u : m->selected > 5 ? value & 0x3F : value; break;
     case 10: return notice(m, value & 1 ? BIEKKARUL_HORIZONTAL : BIEKKARUL_VERTICAL);
+    case 11: mark_ram(m, value / 128, value / 64 % 2); break; /* "bit 7, RAM enabled, and bit 6, writes denied" */
     case 12: m->latch = value; break;
     case 13: m->reload = 1; break;
     case 14:
@@ -318,7 +334,7 @@ static unsigned model_write(struct model *m, unsigned address, unsigned value) {
     if (address >= 0x8000) return register_write(m, address, value);
     if (address < 0x2000) return ppu_write(m, address, value);
     if (m->mapper == CNROM && !m->board_mode) return REFUSED(13);
-    if (address >= 0x6000 && has_prg_ram(m)) m->prg_ram[address - 0x6000] = (uint8_t)value;
+    if (address >= 0x6000 && stores_prg_ram(m)) m->prg_ram[address - 0x6000] = (uint8_t)value;
     return 0;
 }
 
@@ -357,15 +373,15 @@ static inline unsigned chr_page(const struct model *m, unsigned address) {
     return PAGE(0u, HEADER_LENGTH + PRG_BLOCK * (size_t)m->prg + start + address % size);
 }
 
-static inline unsigned middle_page(const struct model *m, unsigned address) {
-    return address >= 0x6000 && has_prg_ram(m) ? PAGE(1u, address - 0x6000) : NOWHERE_PAGE;
+static inline unsigned middle_page(unsigned address, int prg_ram) {
+    return address >= 0x6000 && prg_ram ? PAGE(1u, address - 0x6000) : NOWHERE_PAGE;
 }
 
 static inline unsigned model_read_page(const struct model *m, unsigned page) {
     unsigned address = page * 1024;
     if (no_such_place(m, address)) return REFUSED_PAGE(13);
     if (address >= 0x8000) return prg_page(m, address);
-    return address < 0x2000 ? chr_page(m, address) : middle_page(m, address);
+    return address < 0x2000 ? chr_page(m, address) : middle_page(address, shows_prg_ram(m));
 }
 
 /* House mode stores at the address itself, whatever bank is shown; CNROM in its PRG RAM. */
@@ -380,7 +396,7 @@ static inline unsigned model_write_page(const struct model *m, unsigned page) {
     unsigned address = page * 1024;
     if (address >= 0x8000) return m->mapper == NROM ? NOWHERE_PAGE : CALL_PAGE;
     if (no_such_place(m, address)) return REFUSED_PAGE(13);
-    return address < 0x2000 ? chr_write_page(m, address) : middle_page(m, address);
+    return address < 0x2000 ? chr_write_page(m, address) : middle_page(address, stores_prg_ram(m));
 }
 
 /* The call for pages: the numbers of so many of reads and of writes, or 10 and nothing written. */
@@ -393,7 +409,7 @@ static inline unsigned model_pages(const struct model *m, int state_right, unsig
     return told ? 0 : REFUSED(10);
 }
 
-/* Whether a register that 0000-1FFF hangs on holds another value than before, and one of 8000-FFFF. */
+/* Whether a register that 0000-1FFF hangs on holds another value than before; one of 8000-FFFF; a mark of 6000-7FFF. */
 static inline int chr_moved(const struct model *was, const struct model *is) {
     int mmc1 = was->mmc1_chr_mode != is->mmc1_chr_mode || was->chr_0 != is->chr_0 || was->chr_1 != is->chr_1;
     int mmc3 = was->mmc3_chr_mode != is->mmc3_chr_mode || memcmp(was->r, is->r, 6 * sizeof *is->r);
@@ -406,9 +422,15 @@ static inline int prg_moved(const struct model *was, const struct model *is) {
     return mmc1 || mmc3 || was->uxrom_bank != is->uxrom_bank;
 }
 
+static inline int ram_moved(const struct model *was, const struct model *is) {
+    return was->ram_enabled != is->ram_enabled || was->ram_denied != is->ram_denied;
+}
+
 /* What a write that takes a board from one to the other has above its answer. */
 static inline unsigned moved_bits(const struct model *was, const struct model *is) {
-    return (chr_moved(was, is) ? 0x10000u : 0) + (prg_moved(was, is) ? 0x20000u : 0);
+    unsigned chr = chr_moved(was, is) ? 0x10000u : 0, prg = prg_moved(was, is) ? 0x20000u : 0;
+    unsigned ram = ram_moved(was, is) ? 0x40000u : 0;
+    return chr + prg + ram;
 }
 
 /* A mirroring's digit is the place of its letter. */
@@ -446,6 +468,8 @@ static inline unsigned *field_of(struct model *m, unsigned digit) {
     case BIEKKARUL_DIGIT_MMC3_IRQ_ENABLED: return &m->enabled;
     case BIEKKARUL_DIGIT_MMC3_RELOAD: return &m->reload;
     case BIEKKARUL_DIGIT_MMC3_IRQ_LINE: return &m->line;
+    case BIEKKARUL_DIGIT_RAM_ENABLED: return &m->ram_enabled;
+    case BIEKKARUL_DIGIT_RAM_WRITES_DENIED: return &m->ram_denied;
     default: return NULL;
     }
 }
@@ -460,7 +484,6 @@ static inline void model_digits(struct model *m, uint64_t *digits) {
     digits[BIEKKARUL_DIGIT_IMAGE_LENGTH] = m->image_length;
     /* the bits that have entered, from bit 4 down */
     digits[BIEKKARUL_DIGIT_MMC1_SERIAL_VALUE] = m->serial_bits << (5 - m->serial_count);
-    digits[BIEKKARUL_DIGIT_RAM_ENABLED] = 1;
 }
 
 /* The other way: the board of a state that has these digits. RAMs stay as they are. */
@@ -476,7 +499,7 @@ static inline void model_take_up(struct model *m, const uint64_t *digits) {
 
 /*
  * The bytes of a state, from docs/ABI.md: five words of 64 bits, little-endian, each a row of digits, the first one lowest.
- * Whether they are a board's is judged here from "State ranges", M-100 and M-101, without the library.
+ * Whether they are a board's is judged here from "State ranges", M-100, M-101 and M-111, without the library.
  */
 static const unsigned digit_bits[5][13] = {
     {8, 8, 1, 1, 2, 2, 2, 12, 12},
@@ -537,9 +560,15 @@ static inline int line_may_be_up(const uint64_t *d) {
     return d[BIEKKARUL_DIGIT_MODE] == BIEKKARUL_BOARD && d[BIEKKARUL_DIGIT_MAPPER] == MMC3;
 }
 
+/* M-111: "on the other boards and in house mode they stay at enabled and writable" */
+static inline int ram_stays_open(const uint64_t *d) {
+    return d[BIEKKARUL_DIGIT_MAPPER] != MMC3 || d[BIEKKARUL_DIGIT_MODE] == BIEKKARUL_HOUSE;
+}
+
 /* Whether a digit of words 2 to 4 is this board's; the others hold their start value. */
 static inline int is_used(const uint64_t *d, unsigned digit) {
     if (digit == BIEKKARUL_DIGIT_MMC3_IRQ_LINE) return line_may_be_up(d);
+    if (digit == BIEKKARUL_DIGIT_RAM_ENABLED || digit == BIEKKARUL_DIGIT_RAM_WRITES_DENIED) return !ram_stays_open(d);
     switch (d[BIEKKARUL_DIGIT_MAPPER]) {
     case UXROM: return digit == BIEKKARUL_DIGIT_UXROM_BANK;
     case CNROM: return digit == BIEKKARUL_DIGIT_CNROM_BANK;

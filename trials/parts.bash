@@ -33,6 +33,7 @@ history() {
     for n in 0 1 2 3 4 5 6 7; do echo "${write}80000${n}${write}8001FF"; done
     echo "${write}8000C0${write}A00001${write}C00002${write}C00100${write}E00100$clock$clock$clock$clock$clock${write}E00000"
     line_history "$write" "$clock"
+    ram_history "$read" "$write"
     echo "${write}C000FF${write}C00100$clock$clock"
     ;;
   esac
@@ -52,6 +53,23 @@ line_history() {
   echo "${write}E00000$clock${write}E00100$clock${write}C00000${write}C00100$clock$clock${write}FFFEFF$clock"
 }
 
+# ram_history READ WRITE: MMC3's RAM as board mode protects it (M-111). Bits 7 and 6 go from each of their settings to each, by odd
+# writes to A000-BFFF that have the lower bits clear and set; after each, PRG RAM is written and read at one of its ends. Then CHR
+# RAM, which is not concerned; writes that leave the marks, even ones among them, while PRG RAM is locked and while it is open. In
+# the end it is open.
+ram_history() {
+  local read=$1 write=$2 marks other ends=(6000 7FFF) at=0 value=16
+  echo "${write}8000C5" # so that a select which is lost is seen
+  for marks in A00180 BFFFBF A001C0 B00180 A00100 AFFFBF BFFF7F A001FF B001C0 BFFF3F A001C0 A00140 A00100 BFFF3F B00140 AFFF7F A00180; do
+    echo "$write$marks$write${ends[at]}$value$read${ends[at]}"
+    at=$((1 - at)) value=$((value + 1))
+  done
+  echo "${write}A00140${write}00005A${read}0000"
+  for other in A00080 9FFF80 DFFF80 FFFF80 BFFE00; do echo "$write$other"; done
+  echo "${write}A00180"
+  for other in A00000 BFFEC0 800140 C00140 E00140; do echo "$write$other${read}6000"; done
+}
+
 # spoils MAPPER: bytes put into the state that leave it a state of this board (of NROM: that leave it none), as hex.
 spoils() {
   case $1 in
@@ -68,6 +86,16 @@ spoils() {
 line_spoils() {
   local byte
   for byte in 80 A0; do echo "8622${byte}05 02E00000 05 8622${byte}05 02E00100 05 87$1 05"; done
+}
+
+# ram_spoils MODE: the four settings of the marks put into the state (M-111): MMC3 in board mode takes each, no other board takes
+# one but enabled and writable. PRG RAM, which holds a byte, is read, written and read, there is a clock, an odd write that unlocks
+# and one that denies; then a load, and what it left is read and written.
+ram_spoils() {
+  local byte
+  for byte in 01 00 03 02; do
+    echo "0260005A 8623$byte 006000 2260005C 006000 05 22A00180 006000 22BFFFC0 2260005D 006000 87$1 2260005E 006000"
+  done
 }
 
 # seeds CALLS TRACES: fills the two folders.
@@ -107,6 +135,7 @@ seeds() {
   # an image lent a byte shorter than it was loaded, and a read of the image's last byte
   bytes 00 00 010100"${zeros:0:18}" 000000 408000 428000FF >"$1/seed-other-length"
   bytes 00 00 010100"${zeros:0:18}" 000000 001FFF >"$1/seed-last-byte"
+  ram_seeds "$1"
   nes2_board_seeds "$1" "$2"
   nes2_load_seeds "$1" "$2"
 }
@@ -142,6 +171,23 @@ nes2_header() {
 note_spoils() {
   local byte
   for byte in 43 03 83 C3 41 01 42 02 40 00 03; do echo "8602${byte}0060002260005B05"; done
+}
+
+# ram_seeds CALLS: the marks by themselves, in a few calls, on every board: with CHR ROM and with CHR RAM, without PRG RAM, and
+# where the state alone says whether PRG RAM is there; put into house mode while it is locked, a state is none. Their names stand
+# before the long ones, so that a fault of the marks is found at once.
+ram_seeds() {
+  local mapper mode kind
+  for mapper in 0 1 2 3 4; do
+    for mode in 00 01; do
+      for kind in 0:0202:00000000/00 0:0200:00000000/00 0:0200:00000007/08; do # a row and byte 7
+        bytes "$mode" 00 "$(nes2_header "$mapper" "${kind%/*}" "${kind#*/}")" 000000 \
+          "$(ram_history 00 22)" "$(ram_spoils "$mode")" >"$1/ram-$mapper-$mode-${kind%/*}"
+      done
+    done
+    bytes 01 00 "$(nes2_header "$mapper" 0:0202:00000700 08)" 000000 0260005A 22A00100 860203 006000 22A00180 006000 860243 006000 \
+      22A00140 860203 2260005B 860243 006000 860242 006000 860243 22A001C0 006000 >"$1/ram-note-$mapper"
+  done
 }
 
 # Headers of NES 2.0 in both modes, and states around what only they can say. What is played in no time has a name that

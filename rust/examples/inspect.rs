@@ -10,8 +10,9 @@ mod common;
 use std::ffi::OsStr;
 use std::process::ExitCode;
 
-use biekkarul::trace::{Answer, Run, Trace};
-use biekkarul::{image_hash, Board, Header, Mode, Refusal, Registers, Snapshot, RAM_LENGTH};
+use biekkarul::trace::{Answer, Event, Run, Trace};
+use biekkarul::{image_hash, Board, Digits, Header, Mode, Refusal, Registers};
+use biekkarul::{Snapshot, RAM_LENGTH};
 use common::{asked, contents, name, print, Asked};
 
 const USAGE: &str = "usage: inspect FILE, where - is standard input";
@@ -25,7 +26,7 @@ usage: inspect FILE
 
 An image:       its header, iNES or NES 2.0, whether house and board mode take it, and why where they do not
 A trace:        the same of its image, and the first event to which the modes answer differently
-A snapshot:     its mode, how the screens are turned, and the registers
+A snapshot:     its mode, how the screens are turned, the registers, and whether MMC3 has locked PRG RAM
 
 status: 0  a mode takes the image, or the snapshot is whole
         1  neither mode takes it, or the file is no such thing
@@ -429,12 +430,47 @@ fn where_runs_part(trace: &Trace, house: &Run, board: &Run) -> String {
             events(trace.events().len())
         ),
         Some(number) => format!(
-            "the modes part at event {number} ({}):\n  house  {}\n  board  {}\n",
+            "the modes part at event {number} ({}):\n  house  {}\n  board  {}{}\n",
             trace.events()[number],
             answer(house.answers[number], Mode::House),
-            answer(board.answers[number], Mode::Board)
+            answer(board.answers[number], Mode::Board),
+            lock_at(trace, number).unwrap_or_default()
         ),
     }
+}
+
+/// How board mode has locked PRG RAM at a read from it, which explains the byte; nothing where it is open.
+fn lock_at(trace: &Trace, number: usize) -> Option<String> {
+    match trace.events()[number] {
+        Event::Read {
+            address: 0x6000..=0x7FFF,
+        } => {}
+        _ => return None,
+    }
+    let mut board = Board::load(trace.image(), Mode::Board).ok()?;
+    for event in &trace.events()[..number] {
+        let _ = event.play(&mut board);
+    }
+    lock(&board.digits())
+        .filter(|lock| *lock != OPEN)
+        .map(|lock| format!("; PRG RAM is {lock}"))
+}
+
+/// What is said of PRG RAM as a load leaves it.
+const OPEN: &str = "enabled, writes taken";
+
+/// How the marks of PRG RAM stand, where there is PRG RAM that they can lock: on MMC3 in board mode.
+fn lock(digits: &Digits) -> Option<&'static str> {
+    let mmc3 = match digits.registers() {
+        Registers::Mmc3(mmc3) if digits.mode() == Mode::Board && digits.has_prg_ram() => mmc3,
+        _ => return None,
+    };
+    Some(match (mmc3.ram_enabled, mmc3.ram_writes_denied) {
+        (true, false) => OPEN,
+        (true, true) => "enabled, writes denied",
+        (false, false) => "disabled",
+        (false, true) => "disabled, writes denied",
+    })
 }
 
 /// An answer as a line of the text has it, and in words.
@@ -474,15 +510,16 @@ fn of_snapshot(bytes: &[u8]) -> Report {
     let last_notice = snapshot
         .last_notice()
         .map_or_else(|| "none".to_string(), |notice| notice.to_string());
-    let no_prg_ram = if snapshot.digits().has_prg_ram() {
-        ""
-    } else {
-        "  PRG RAM       none\n"
+    let digits = snapshot.digits();
+    let prg_ram = match lock(&digits) {
+        Some(lock) => format!("  PRG RAM       {lock}\n"),
+        None if digits.has_prg_ram() => String::new(),
+        None => "  PRG RAM       none\n".to_string(),
     };
     Report {
         text: format!(
             "is a snapshot in {} mode\n  image hash    {:016X}\n  last notice   {last_notice}\n  \
-             screens       {}\n  registers     {:?}\n{no_prg_ram}",
+             screens       {}\n  registers     {:?}\n{prg_ram}",
             snapshot.mode(),
             snapshot.image_hash(),
             snapshot.screens(),

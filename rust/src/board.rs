@@ -213,7 +213,8 @@ impl<I: AsRef<[u8]>> Board<I> {
     }
 
     /// The console is switched off and on: every register is as the load left it, CHR RAM is cleared, and
-    /// PRG RAM keeps what the game saved. The answer is the mirroring that now holds, which is the header's.
+    /// PRG RAM, locked or not, keeps what the game saved. The answer is the mirroring that now holds, which is
+    /// the header's.
     ///
     /// # Errors
     ///
@@ -330,7 +331,7 @@ impl<I: AsRef<[u8]>> Board<I> {
     /// # let mut image = vec![0x4E, 0x45, 0x53, 0x1A, 4, 0, 0x20, 0];
     /// # image.resize(16 + 4 * 16_384, 0);
     /// let mut board = Board::load(image, Mode::House)?; // UxROM
-    /// let prg = Moved { chr: false, prg: true };
+    /// let prg = Moved { prg: true, ..Moved::default() };
     /// assert_eq!(board.write_moved(0x8000, 2)?, (None, prg));
     /// assert_eq!(board.write_moved(0x8000, 2)?, (None, Moved::default()));
     /// # Ok::<(), Refusal>(())
@@ -608,7 +609,8 @@ impl<I> Board<I> {
     /// Whether the cartridge has PRG RAM. Only an NES 2.0 header in board mode can say that it has none: then
     /// 6000-7FFF reads 0 and ignores writes, and what is put into [`prg_ram_mut`](Board::prg_ram_mut) is not
     /// seen. House mode, and every image without the mark, always has it; NROM, UxROM and CNROM show none at
-    /// 6000-7FFF either way.
+    /// 6000-7FFF either way. Whether MMC3 has locked it, which is another matter, its registers say
+    /// ([`Mmc3Registers::ram_enabled`](crate::Mmc3Registers::ram_enabled)).
     ///
     /// ```
     /// use biekkarul::{Board, Mode, Refusal};
@@ -633,6 +635,31 @@ impl<I> Board<I> {
 
     /// PRG RAM: what a game saves. It is kept here also where the cartridge
     /// [has none](Board::has_prg_ram), and then holds what it was given.
+    ///
+    /// In board mode MMC3 locks it by an odd write to A000-BFFF: bit 7 enables it, bit 6 denies writes. That is
+    /// for the game's reads and writes only. The bytes here stay, and a saved game is taken from here, or put
+    /// back, at any time:
+    ///
+    /// ```
+    /// use biekkarul::{Board, Mode, Refusal};
+    ///
+    /// # let mut image = vec![0x4E, 0x45, 0x53, 0x1A, 1, 1, 0x41, 0];
+    /// # image.resize(16 + 16_384 + 8_192, 0);
+    /// let mut board = Board::load(image, Mode::Board)?; // MMC3
+    /// board.write(0x6000, 0x2A)?;
+    /// board.write(0xA001, 0x00)?; // disabled
+    /// board.write(0x6000, 0x2B)?;
+    /// assert_eq!((board.read(0x6000)?, board.prg_ram()[0]), (0, 0x2A));
+    ///
+    /// board.write(0xA001, 0xC0)?; // enabled, and writes denied
+    /// board.write(0x6000, 0x2B)?;
+    /// assert_eq!((board.read(0x6000)?, board.prg_ram()[0]), (0x2A, 0x2A));
+    ///
+    /// board.write(0xA001, 0x80)?; // as a load leaves it
+    /// board.write(0x6000, 0x2B)?;
+    /// assert_eq!((board.read(0x6000)?, board.prg_ram()[0]), (0x2B, 0x2B));
+    /// # Ok::<(), Refusal>(())
+    /// ```
     #[must_use]
     pub fn prg_ram(&self) -> &[u8; RAM_LENGTH] {
         self.memory.prg_ram()
@@ -771,6 +798,33 @@ mod tests {
             }
             board.write(0x8000, 0).unwrap();
             assert!(!board.try_store(0x8000, 0));
+        }
+    }
+
+    /// A lock that changes is seen at the next call, and the one after that goes through the page again.
+    #[test]
+    fn a_lock_is_learnt() {
+        let mut image = b"NES\x1A\x02\x00\x40\0\0\0\0\0\0\0\0\0".to_vec(); // MMC3, CHR RAM
+        image.resize(16 + 2 * 16_384, 0xEA);
+        let mut board = Board::load(&image[..], Mode::Board).unwrap();
+        board.prg_ram_mut()[0x1FFF] = 0x2A;
+        for (marks, byte, is_stored) in [
+            (0x00, 0x00, false),
+            (0xC0, 0x2A, false),
+            (0x40, 0x00, false),
+            (0x80, 0x2A, true),
+        ] {
+            board.write(0xBFFF, marks).unwrap();
+            assert_eq!(board.byte_at(0x7FFF), None);
+            assert!(!board.try_store(0x6000, marks));
+            assert_eq!(board.read(0x7FFF), Ok(byte));
+            assert_eq!(board.write(0x6000, marks), Ok(None));
+            for _ in 0..2 {
+                assert_eq!(board.byte_at(0x7FFF), Some(byte));
+                assert!(board.try_store(0x6000, marks));
+                assert_eq!(board.prg_ram()[0], if is_stored { marks } else { 0 });
+                board.write(0xA001, marks | 0x3F).unwrap(); // the marks stay
+            }
         }
     }
 }

@@ -89,9 +89,9 @@ pub enum Digit {
     Mmc3Reload,
     /// MMC3's interrupt line: 1 up, 0 low. In house mode it is always 0.
     Mmc3IrqLine,
-    /// Reserved: 1.
+    /// Whether PRG RAM is enabled: 1, and 0 only on MMC3 in board mode.
     RamEnabled,
-    /// Reserved: 0.
+    /// Whether PRG RAM takes no writes: 0, and 1 only on MMC3 in board mode.
     RamWritesDenied,
 }
 

@@ -1,8 +1,8 @@
 //! Where the bytes behind a board's addresses are, page by page.
 //!
 //! Every window of every board is whole pages, so one number for a page says where all of its bytes are, and
-//! it holds until a write moves a bank. The library says these numbers. A board keeps them, and then reads
-//! and stores bytes without a call.
+//! it holds until a write moves a bank, or locks or unlocks PRG RAM. The library says these numbers. A board
+//! keeps them, and then reads and stores bytes without a call.
 
 use alloc::boxed::Box;
 use core::array;
@@ -73,27 +73,32 @@ pub(crate) fn all(state: &[u8]) -> Result<([Page; PAGES], [Page; PAGES]), Refusa
 /// Which pages a write may have moved; [`Board::write_moved`](crate::Board::write_moved) says it.
 ///
 /// A part has moved where a register that it hangs on holds another value than before. A page of it may
-/// still be where it was.
+/// still be where it was. Pages 8 to 23, the addresses 2000-5FFF, never move.
 #[derive(Clone, Copy, Debug, Default, PartialEq, Eq, Hash)]
 pub struct Moved {
     /// Pages 0 to 7, the addresses 0000-1FFF, for reads and for writes.
     pub chr: bool,
     /// Pages 32 to 63, the addresses 8000-FFFF, for reads. Its write pages never move.
     pub prg: bool,
+    /// Pages 24 to 31, the addresses 6000-7FFF, for reads and for writes: PRG RAM, which only MMC3 in board mode
+    /// locks and unlocks.
+    pub ram: bool,
 }
 
 const CHR_MOVED: u32 = 1 << 16;
 const PRG_MOVED: u32 = 1 << 17;
+const RAM_MOVED: u32 = 1 << 18;
 
 impl Moved {
     /// Of a write's answer, whose lower 16 bits are the plain write's.
     pub(crate) fn of(answer: u32) -> Moved {
-        if answer >= 2 * PRG_MOVED {
+        if answer >= 2 * RAM_MOVED {
             foreign(answer);
         }
         Moved {
             chr: answer & CHR_MOVED != 0,
             prg: answer & PRG_MOVED != 0,
+            ram: answer & RAM_MOVED != 0,
         }
     }
 }
@@ -221,12 +226,19 @@ impl PageMap {
     /// What has moved is unknown.
     pub(crate) fn forget(&mut self, moved: Moved) {
         if moved.chr {
-            self.forget_reads(CHR_PAGES);
-            self.writes[CHR_PAGES].fill(UNKNOWN);
+            self.forget_both(CHR_PAGES);
         }
         if moved.prg {
             self.forget_reads(PRG_PAGES);
         }
+        if moved.ram {
+            self.forget_both(RAM_PAGES);
+        }
+    }
+
+    fn forget_both(&mut self, part: Range<usize>) {
+        self.writes[part.clone()].fill(UNKNOWN);
+        self.forget_reads(part);
     }
 
     fn forget_reads(&mut self, part: Range<usize>) {
@@ -247,6 +259,7 @@ impl Clone for PageMap {
 }
 
 const CHR_PAGES: Range<usize> = 0..8;
+const RAM_PAGES: Range<usize> = 24..32;
 const PRG_PAGES: Range<usize> = 32..PAGES;
 
 /// The pages that are learnt at once: the eight that hold this address. To learn all that a write may have moved
@@ -320,17 +333,19 @@ mod tests {
 
     #[test]
     fn what_has_moved_stands_above_the_answer() {
-        let moved = |chr, prg| Moved { chr, prg };
-        assert_eq!(Moved::of(0x0FFFF), moved(false, false));
-        assert_eq!(Moved::of(0x10056), moved(true, false));
-        assert_eq!(Moved::of(0x20000), moved(false, true));
-        assert_eq!(Moved::of(0x30000), moved(true, true));
+        let moved = |chr, prg, ram| Moved { chr, prg, ram };
+        assert_eq!(Moved::of(0x0FFFF), moved(false, false, false));
+        assert_eq!(Moved::of(0x10056), moved(true, false, false));
+        assert_eq!(Moved::of(0x20000), moved(false, true, false));
+        assert_eq!(Moved::of(0x30000), moved(true, true, false));
+        assert_eq!(Moved::of(0x40000), moved(false, false, true));
+        assert_eq!(Moved::of(0x70000), moved(true, true, true));
     }
 
     #[test]
     #[should_panic(expected = "it is another one")]
     fn nothing_else_moves() {
-        Moved::of(0x40000);
+        Moved::of(0x80000);
     }
 
     /// What must not be read or stored directly is past the memory, at every address of its page.
@@ -363,30 +378,48 @@ mod tests {
         }
     }
 
-    /// Eight pages are learnt at once and are known from then on, until they have moved.
+    /// Eight pages are learnt at once and are known from then on.
     #[test]
     fn eight_pages_are_learnt_at_once() {
-        let board = board(0x40, 2, 1, Mode::Board);
-        let state = board.state();
+        let state = board(0x40, 2, 1, Mode::Board).state();
         let mut map = PageMap::unknown();
         for address in (0..=0xFFFF).step_by(PAGE_LENGTH) {
             let first_of_eight = address % 0x2000 == 0;
             assert_eq!(map.learn_reads(&state, address + 0x3FF), first_of_eight);
             assert_eq!(map.learn_writes(&state, address + 0x3FF), first_of_eight);
         }
-        let mut moves = |chr, prg| {
-            map.forget(Moved { chr, prg });
-            [0x1FFF, 0x2000, 0x8000, 0xFFFF].map(|address| {
-                (
-                    map.learn_reads(&state, address),
-                    map.learn_writes(&state, address),
-                )
-            })
+    }
+
+    /// The pages of reads and of writes that have yet to be learnt.
+    fn unknown(map: &PageMap) -> (Vec<usize>, Vec<usize>) {
+        let read = |page: &usize| map.reads[*page].load(Ordering::Relaxed);
+        let reads = (0..PAGES).filter(|page| read(page) == IN_MEMORY | UNKNOWN);
+        let writes = (0..PAGES).filter(|page| map.writes[*page] == UNKNOWN);
+        (reads.collect(), writes.collect())
+    }
+
+    /// A page is known until its part has moved; what is unknown is learnt again.
+    #[test]
+    fn just_what_has_moved_is_forgotten() {
+        let state = board(0x40, 2, 1, Mode::Board).state();
+        let mut map = PageMap::unknown();
+        let mut forgotten = |chr, prg, ram| {
+            for address in (0..=0xFFFF).step_by(PAGE_LENGTH) {
+                map.learn_reads(&state, address);
+                map.learn_writes(&state, address);
+            }
+            assert_eq!(unknown(&map), (Vec::new(), Vec::new()));
+            map.forget(Moved { chr, prg, ram });
+            unknown(&map)
         };
-        let (known, reads, both) = ((false, false), (true, false), (true, true));
-        assert_eq!(moves(true, false), [both, known, known, known]);
-        assert_eq!(moves(false, true), [known, known, reads, reads]);
-        assert_eq!(moves(false, false), [known; 4]);
+        let pages = |part: Range<usize>| part.collect::<Vec<usize>>();
+        assert_eq!(forgotten(true, false, false), (pages(0..8), pages(0..8)));
+        assert_eq!(forgotten(false, true, false), (pages(32..64), pages(0..0)));
+        assert_eq!(
+            forgotten(false, false, true),
+            (pages(24..32), pages(24..32))
+        );
+        assert_eq!(forgotten(false, false, false), (pages(0..0), pages(0..0)));
     }
 
     fn board(byte6: u8, prg: u8, chr: u8, mode: Mode) -> Board {
@@ -450,6 +483,37 @@ mod tests {
                     let wanted = of_each_page(within, |at| board.read_by_call(at));
                     assert_eq!(of_each_page(within, |at| board.read(at)), wanted);
                 }
+            }
+        }
+    }
+
+    /// An address at the ends of PRG RAM or within it, one of MMC3's marks for it, one of CHR RAM, or any.
+    fn near_the_ram(number: u64) -> u16 {
+        let any = (number >> 3) as u16;
+        match number % 8 {
+            0 | 1 => [0x5FFF, 0x6000, 0x7FFF, 0x8000][usize::from(any) % 4],
+            2 | 3 => 0x6000 + any % 0x2000,
+            4 | 5 => 0xA000 + any % 0x2000,
+            6 => any % 0x2000,
+            _ => any,
+        }
+    }
+
+    /// The same from states with any marks, over locks and unlocks.
+    #[test]
+    fn pages_and_calls_agree_about_locked_ram() {
+        let mut next = numbers(6);
+        for marks in 0..4 {
+            let fresh = board(0x40, 2, 0, Mode::Board);
+            let mut state = fresh.state();
+            state[35] = marks; // nothing else is kept in this byte
+            let ram = [0x2A; RAM_LENGTH];
+            let mut board =
+                Board::from_parts(fresh.into_image(), Mode::Board, &state, &ram, &ram).unwrap();
+            for _ in 0..2_000 {
+                let at = near_the_ram(next());
+                assert_eq!(board.read(at), board.read_by_call(at), "{at:04X}");
+                write_both(&mut board, near_the_ram(next()), next() as u8);
             }
         }
     }

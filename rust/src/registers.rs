@@ -59,7 +59,7 @@ pub struct Mmc1Registers {
     pub prg: u8,
 }
 
-/// The registers of MMC3, with its interrupt unit.
+/// The registers of MMC3, with its interrupt unit and the marks that protect its PRG RAM.
 #[derive(Clone, Copy, Debug, PartialEq, Eq, Hash)]
 #[non_exhaustive]
 pub struct Mmc3Registers {
@@ -81,6 +81,12 @@ pub struct Mmc3Registers {
     pub reload: bool,
     /// The interrupt line's level: whether it is up. In house mode it is always low.
     pub irq_line: bool,
+    /// Whether PRG RAM is enabled. Where it is not, 6000-7FFF reads 0 and ignores writes, and the bytes are kept. In
+    /// house mode it always is.
+    pub ram_enabled: bool,
+    /// Whether writes to PRG RAM are denied: 6000-7FFF ignores them, and is still read while it is enabled. In house
+    /// mode they never are.
+    pub ram_writes_denied: bool,
 }
 
 impl Digits {
@@ -124,6 +130,8 @@ impl Digits {
             irq_enabled: self[Digit::Mmc3IrqEnabled] == 1,
             reload: self[Digit::Mmc3Reload] == 1,
             irq_line: self.irq_line(),
+            ram_enabled: self[Digit::RamEnabled] == 1,
+            ram_writes_denied: self[Digit::RamWritesDenied] == 1,
         }
     }
 

@@ -4,6 +4,7 @@
 mod common;
 
 use std::cell::Cell;
+use std::ops::Range;
 use std::sync::{Arc, Barrier};
 use std::thread;
 
@@ -242,7 +243,7 @@ fn the_pages_that_are_shown() {
     }
 }
 
-/// The registers that each part hangs on.
+/// What each part hangs on.
 const OF_CHR: [Digit; 11] = [
     Digit::CnromBank,
     Digit::Mmc1ChrMode,
@@ -265,8 +266,27 @@ const OF_PRG: [Digit; 6] = [
     Digit::Mmc3PrgMode,
 ];
 
+const OF_RAM: [Digit; 2] = [Digit::RamEnabled, Digit::RamWritesDenied];
+
 fn other(digits: &[Digit], before: &Digits, after: &Digits) -> bool {
     digits.iter().any(|&digit| before[digit] != after[digit])
+}
+
+/// The pages of reads, and those of writes.
+type Pages = ([Page; PAGES], [Page; PAGES]);
+
+fn pages<I>(board: &Board<I>) -> Pages {
+    (board.read_pages(), board.write_pages())
+}
+
+/// A part that has not moved is as it was. Pages 8 to 23, and of writes those from 32 on, always are.
+fn rest_is_the_same(moved: Moved, before: &Pages, after: &Pages) {
+    let same_reads = |part: Range<usize>| before.0[part.clone()] == after.0[part];
+    let same_writes = |part: Range<usize>| before.1[part.clone()] == after.1[part];
+    assert!(moved.chr || same_reads(0..8) && same_writes(0..8));
+    assert!(moved.ram || same_reads(24..32) && same_writes(24..32));
+    assert!(moved.prg || same_reads(32..PAGES));
+    assert!(same_reads(8..24) && same_writes(8..24) && same_writes(32..PAGES));
 }
 
 /// A write says that a part has moved exactly where a register of the part holds another value; else the
@@ -274,31 +294,29 @@ fn other(digits: &[Digit], before: &Digits, after: &Digits) -> bool {
 #[test]
 fn what_a_write_has_moved() {
     let mut numbers = Numbers(28);
-    let (mut chr_moved, mut prg_moved) = (0, 0);
+    let (mut chr_moved, mut prg_moved, mut ram_moved) = (0, 0, 0);
     for (bytes, mode) in images() {
         let mut board = Board::load(&bytes[..], mode).unwrap();
         for _ in 0..2_000 {
             let (at, value) = (address(&mut numbers), byte(&mut numbers));
-            let (before, digits) = ((board.read_pages(), board.write_pages()), board.digits());
+            let (before, digits) = (pages(&board), board.digits());
             let mut twin = board.clone();
             let answer = board.write_moved(at, value);
             assert_eq!(twin.write(at, value), answer.map(|(notice, _)| notice));
             assert_eq!(twin, board);
             let moved = answer.map_or(Moved::default(), |(_, moved)| moved);
-            let after = (board.read_pages(), board.write_pages());
             assert_eq!(moved.chr, other(&OF_CHR, &digits, &board.digits()));
             assert_eq!(moved.prg, other(&OF_PRG, &digits, &board.digits()));
-            assert!(moved.chr || before.0[..8] == after.0[..8] && before.1[..8] == after.1[..8]);
-            assert!(moved.prg || before.0[32..] == after.0[32..]);
-            assert_eq!(before.0[8..32], after.0[8..32]);
-            assert_eq!(before.1[8..], after.1[8..]);
+            assert_eq!(moved.ram, other(&OF_RAM, &digits, &board.digits()));
+            rest_is_the_same(moved, &before, &pages(&board));
             chr_moved += u32::from(moved.chr);
             prg_moved += u32::from(moved.prg);
+            ram_moved += u32::from(moved.ram);
         }
     }
     assert!(
-        chr_moved > 1_000 && prg_moved > 1_000,
-        "{chr_moved} {prg_moved}"
+        chr_moved > 1_000 && prg_moved > 1_000 && ram_moved > 100,
+        "{chr_moved} {prg_moved} {ram_moved}"
     );
 }
 

@@ -146,12 +146,17 @@ fn registers_of_each_board() {
     assert_eq!(
         format!("{:?}", mmc3.registers()),
         "Mmc3(Mmc3Registers { banks: [2, 6, 10, 14, 18, 22, 26, 30], select: 5, prg_mode: 0, \
-         chr_mode: 1, latch: 8, counter: 9, irq_enabled: true, reload: false, irq_line: true })"
+         chr_mode: 1, latch: 8, counter: 9, irq_enabled: true, reload: false, irq_line: true, \
+         ram_enabled: true, ram_writes_denied: false })"
     );
-    mmc3.write(0xE000, 0).unwrap();
-    mmc3.write(0xC001, 0).unwrap();
+    for (address, value) in [(0xE000, 0), (0xC001, 0), (0xA001, 0x40)] {
+        mmc3.write(address, value).unwrap();
+    }
     match mmc3.registers() {
-        Registers::Mmc3(mmc3) => assert!(!mmc3.irq_enabled && mmc3.reload && !mmc3.irq_line),
+        Registers::Mmc3(mmc3) => {
+            assert!(!mmc3.irq_enabled && mmc3.reload && !mmc3.irq_line);
+            assert!(!mmc3.ram_enabled && mmc3.ram_writes_denied);
+        }
         others => panic!("{others:?}"),
     }
 }

@@ -1,11 +1,11 @@
 //! Random headers and histories through the wrapper, held against a second reading of document 01 and of M-100,
-//! M-101 and M-104 that was written apart from the library: trials/model.h, in C, as the program trials/play.c.
-//! Board mode has no other engine to be compared with.
+//! M-101, M-104 and M-111 that was written apart from the library: trials/model.h, in C, as the program
+//! trials/play.c. Board mode has no other engine to be compared with.
 
 mod common;
 
 use biekkarul::{Board, Mode};
-use common::reading::{byte, expected, history, make, said, Call, CLOCK, WRITE};
+use common::reading::{byte, expected, history, make, said, Call, CLOCK, READ, WRITE};
 use common::{image, marked, Numbers, BATTERY_RAM_8K, BOTH_MODES, MARK, NO_RAM, RAM_8K};
 use common::{CHR_BLOCK, CNROM, HEADER, MMC1, MMC3, NROM, PRG_BLOCK, UXROM, VERTICAL};
 
@@ -158,6 +158,37 @@ fn irqs_and_the_line() {
         for _ in 0..20 {
             let calls: Vec<Call> = (0..2_000).map(|_| interrupt_call(&mut numbers)).collect();
             play_calls(&image(MMC3, 1, 1), mode, &calls);
+        }
+    }
+}
+
+/// Reads and writes of PRG RAM mostly, at few addresses, and writes to MMC3's marks for it.
+fn ram_call(numbers: &mut Numbers) -> Call {
+    let [high, low] = one_of(numbers, &[0x5FFF, 0x6000, 0x6001, 0x7FFF, 0x8000_u16]).to_be_bytes();
+    match numbers.next() % 8 {
+        0 => [WRITE, 0xA0, 0x01, byte(numbers)],
+        1 => [WRITE, 0xBF, 0xFE | byte(numbers), byte(numbers)],
+        2..=4 => [WRITE, high, low, byte(numbers)],
+        _ => [READ, high, low, 0],
+    }
+}
+
+/// With PRG RAM and, in board mode, without.
+#[test]
+fn locked_ram() {
+    let mut numbers = Numbers(8);
+    let images = [
+        image(MMC3, 1, 1),
+        marked(MMC3, 2, 0, BATTERY_RAM_8K),
+        marked(MMC3, 2, 0, NO_RAM),
+        image(MMC1, 2, 1),
+    ];
+    for bytes in &images {
+        for mode in BOTH_MODES {
+            for _ in 0..5 {
+                let calls: Vec<Call> = (0..2_000).map(|_| ram_call(&mut numbers)).collect();
+                play_calls(bytes, mode, &calls);
+            }
         }
     }
 }

@@ -236,6 +236,9 @@ fn a_state_that_no_board_could_have() {
         (ZERO, 1),          // nothing is kept here
         (STATE + 24, 1),    // an odd R0
         (STATE + 34, 0x80), // a line that is up in house mode
+        (STATE + 35, 0),    // PRG RAM that is disabled in house mode
+        (STATE + 35, 3),    // writes that are denied in house mode
+        (STATE + 35, 5),    // above the last digit, right beside the marks
         (STATE + 39, 0x80), // above the last digit
     ] {
         let mut bytes = good.clone();
@@ -401,6 +404,8 @@ fn registers_at_their_ends() {
         (Digit::Mmc3R0, 254),
         (Digit::Mmc3Counter, 255),
         (Digit::Mmc3IrqLine, 1),
+        (Digit::RamEnabled, 0),
+        (Digit::RamWritesDenied, 1),
     ] {
         let state = packed(&with(board.digits(), digit, value));
         let ram = [0xFF; RAM_LENGTH];

@@ -235,7 +235,7 @@ fn digits_of_a_state_are_told_in_their_order() {
         board.write(0x8000, register).unwrap();
         board.write(0x8001, 2 + 4 * register).unwrap();
     }
-    for (address, value) in [(0x8000, 0xC5), (0xC001, 0), (0xE001, 0)] {
+    for (address, value) in [(0x8000, 0xC5), (0xA001, 0x40), (0xC001, 0), (0xE001, 0)] {
         board.write(address, value).unwrap();
     }
     assert_eq!(board.clock(), Ok(true), "latch 0 raises the line");
@@ -244,11 +244,12 @@ fn digits_of_a_state_are_told_in_their_order() {
     board.write(0xC000, 8).unwrap();
     let mut wanted = [0; DIGITS];
     wanted[..10].copy_from_slice(&[1, 4, 1, 0, 0, 0, 1, 2, 1, 16 + 2 * 16_384 + 8_192]);
-    wanted[22..].copy_from_slice(&[2, 6, 10, 14, 18, 22, 26, 30, 8, 9, 5, 1, 1, 1, 0, 1, 1, 0]);
+    wanted[22..].copy_from_slice(&[2, 6, 10, 14, 18, 22, 26, 30, 8, 9, 5, 1, 1, 1, 0, 1, 0, 1]);
     assert_eq!(board.digits().all(), &wanted);
     assert_eq!(board.digits()[Digit::Mmc3Latch], 8);
     assert_eq!(board.digits()[Digit::Mmc3IrqLine], 1);
-    assert_eq!(board.digits()[Digit::RamEnabled], 1);
+    assert_eq!(board.digits()[Digit::RamEnabled], 0);
+    assert_eq!(board.digits()[Digit::RamWritesDenied], 1);
 }
 
 #[test]
@@ -288,6 +289,7 @@ fn debug_shows_the_registers_and_no_bytes() {
         format!("{board:?}"),
         "Board { mode: House, mapper: 4, header_mirroring: Horizontal, prg_count: 2, chr_count: 1, \
          is_nes2: false, has_prg_ram: true, screens: Vertical, registers: Mmc3(Mmc3Registers { banks: [0, 0, 0, 0, 0, 0, 0, 0], select: 0, \
-         prg_mode: 0, chr_mode: 0, latch: 7, counter: 0, irq_enabled: false, reload: false, irq_line: false }), .. }"
+         prg_mode: 0, chr_mode: 0, latch: 7, counter: 0, irq_enabled: false, reload: false, irq_line: false, \
+         ram_enabled: true, ram_writes_denied: false }), .. }"
     );
 }

@@ -1,9 +1,9 @@
 /*
  * Calls every exported function from C, against include/biekkarul.h, and checks its answers:
- * document 01's P lines, the order of the refusals, NES 2.0, MMC3's line, which states are taken and what they are
- * read into. The last two are held against a second reading of docs/ABI.md that stands here, by shifts and masks of
- * its own (get, could_be): every digit at every value, and every state that differs from a loaded one in one or two
- * bits. Whatever is refused must leave every buffer as it was.
+ * document 01's P lines, the order of the refusals, NES 2.0, MMC3's line and its RAM's two marks, which states are
+ * taken and what they are read into. The last two are held against a second reading of docs/ABI.md that stands here, by
+ * shifts and masks of its own (get, could_be): every digit at every value, and every state that differs from a loaded
+ * one in one or two bits. Whatever is refused must leave every buffer as it was.
  */
 #include "biekkarul.h"
 
@@ -208,22 +208,22 @@ static int mirroring_could_be(const uint8_t *s) {
     return current == get(s, HEADER_MIRRORING);
 }
 
-/* The board that a digit of words 2 to 4 belongs to; MAPPERS for a reserved one, which has a value of its own. */
+/* The board that a digit of words 2 to 4 belongs to; MAPPERS for a reserved one. */
 static unsigned owner_of(int name) {
     if (name == UXROM_BANK) return UXROM;
     if (name == CNROM_BANK) return CNROM;
     if (name >= SERIAL_COUNT && name <= PRG1) return MMC1;
-    if (name >= R0 && name <= IRQ_LINE) return MMC3;
+    if (name >= R0 && name <= RAM_DENIED) return MMC3;
     return MAPPERS;
 }
 
-/* "every digit of another board than this one's is 0", and what is reserved or left of a word is as it must be. */
+/* A digit that is not this board's is 0, and so is the rest of a word; but RAM's enable is 1 on every other board. */
 static int others_could_be(const uint8_t *s) {
     int name;
     if (get(s, VERSION) != BIEKKARUL_STATE_VERSION) return 0;
     for (name = UXROM_BANK; name < DIGITS; name++) {
-        uint64_t fixed = name == RAM_ENABLED;
-        if (owner_of(name) != get(s, MAPPER) && get(s, (enum digit_name)name) != fixed) return 0;
+        uint64_t at_start = name == RAM_ENABLED;
+        if (owner_of(name) != get(s, MAPPER) && get(s, (enum digit_name)name) != at_start) return 0;
     }
     return 1;
 }
@@ -235,11 +235,16 @@ static int banks_could_be(const uint8_t *s) {
 /* House mode has MMC3's line always low; board mode has it at either level, whatever the other digits are. */
 static int line_could_be(const uint8_t *s) { return get(s, IRQ_LINE) <= (get(s, MODE) == BIEKKARUL_BOARD); }
 
+/* House mode has MMC3's RAM enabled and writable; board mode has all four settings, also where there is no PRG RAM. */
+static int marks_could_be(const uint8_t *s) {
+    return get(s, MODE) == BIEKKARUL_BOARD || (get(s, RAM_ENABLED) == 1 && get(s, RAM_DENIED) == 0);
+}
+
 static int board_could_be(const uint8_t *s) {
     uint64_t count = get(s, SERIAL_COUNT);
     switch (get(s, MAPPER)) {
     case MMC1: return count <= 4 && get(s, SERIAL_VALUE) % (1u << (5 - count)) == 0;
-    case MMC3: return banks_could_be(s) && line_could_be(s);
+    case MMC3: return banks_could_be(s) && line_could_be(s) && marks_could_be(s);
     default: return 1;
     }
 }
@@ -410,10 +415,20 @@ static void check_states(void) {
             expect("length", (unsigned)get(now.state, LENGTH), (unsigned)image_length);
             expect("MMC1 PRG mode", (unsigned)get(now.state, PRG_MODE1), mapper == MMC1 ? 3 : 0);
             expect("RAM enabled", (unsigned)get(now.state, RAM_ENABLED), 1);
+            expect("RAM writes denied", (unsigned)get(now.state, RAM_DENIED), 0);
             check_all_digits();
             check_two_bits();
         }
     }
+}
+
+/* From MMC3 in board mode with its RAM locked by both marks, which no other board and no other mode may have. */
+static void check_locked_states(void) {
+    start(MMC3 * 16 + 1, 2, 4, BIEKKARUL_BOARD);
+    expect("locked", write_at(0xA001, 0x40), 0);
+    expect("the locked state could be", (unsigned)could_be(now.state), 1);
+    check_all_digits();
+    check_two_bits();
 }
 
 /* Lengths of the state and of the RAMs, and where 9 and 10 stand. */
@@ -754,6 +769,147 @@ static void check_line(void) {
     check_house_line();
 }
 
+/* MMC3's RAM and its two marks (M-111). */
+
+static unsigned enabled(void) { return (unsigned)get(now.state, RAM_ENABLED); }
+
+static unsigned denied(void) { return (unsigned)get(now.state, RAM_DENIED); }
+
+/* A setting of the two is bits 7 and 6 of the byte that makes it: 0 to 3. */
+static void set_marks(uint8_t *state, unsigned setting) {
+    set(state, RAM_ENABLED, setting / 2);
+    set(state, RAM_DENIED, setting % 2);
+}
+
+/* Both ends of PRG RAM under these marks: what is read there, and what a write does. */
+static void check_ram(unsigned is_enabled, unsigned is_denied) {
+    static const unsigned ends[2] = {0x6000, 0x7FFF};
+    unsigned k;
+    for (k = 0; k < 2; k++) {
+        uint8_t *byte = &now.prg_ram[ends[k] - 0x6000];
+        *byte = 0x5A;
+        keep();
+        expect("a read of RAM", read_at(ends[k]), is_enabled ? 0x5A : 0);
+        expect("a write to RAM is quiet", write_at(ends[k], 0x33), 0);
+        expect("and is stored where RAM is open", *byte, is_enabled && !is_denied ? 0x33 : 0x5A);
+        *byte = 0x5A;
+        expect_untouched("but for that byte, a write to RAM");
+    }
+}
+
+/* A write of any byte to an odd address in A000-BFFF sets both marks, whatever they were, and moves nothing else. */
+static void check_marks_at(unsigned odd) {
+    unsigned value, setting;
+    write_at(0x8000, 0xC5); /* no other register is at 0, so that one which is cleared is seen */
+    write_at(0x8001, 6);
+    write_at(0xC000, 9);
+    write_at(0xC001, 0);
+    for (value = 0; value < 256; value++) {
+        for (setting = 0; setting < 4; setting++) {
+            set_marks(now.state, setting);
+            keep();
+            expect("the marks are set quietly", write_at(odd, value), 0);
+            expect("enabled by bit 7", enabled(), value >> 7);
+            expect("denied by bit 6", denied(), value >> 6 & 1);
+            set_marks(before.state, value >> 6);
+            expect_untouched("but for the marks, that write");
+        }
+        check_ram(enabled(), denied());
+    }
+}
+
+/* Reads, clocks and writes to every other register, even addresses in A000-BFFF among them, leave the marks. */
+static void check_marks_stay(unsigned setting) {
+    static const unsigned others[] = {0x0000, 0x1FFF, 0x5FFF, 0x6000, 0x7FFF, 0x8000, 0x8001, 0x9FFF, 0xA000,
+                                      0xBFFE, 0xC000, 0xC001, 0xDFFF, 0xE000, 0xE001, 0xFFFF};
+    unsigned i, bits;
+    write_at(0xA001, setting * 64);
+    for (i = 0; i < sizeof others / sizeof *others; i++) {
+        for (bits = 0; bits < 4; bits++) {
+            read_at(others[i]);
+            write_at(others[i], bits * 64);
+            clock_once();
+            expect("enabled as it was", enabled(), setting / 2);
+            expect("denied as it was", denied(), setting % 2);
+        }
+    }
+    read_at(0xA001);
+    read_at(0xBFFF);
+    expect("a read of the register sets no mark", 2 * enabled() + denied(), setting);
+}
+
+/* A byte of PRG RAM from before the lock is read after it; CHR RAM is not concerned; a load leaves RAM open. */
+static void check_lock(void) {
+    start(MMC3 * 16, 2, 0, BIEKKARUL_BOARD);
+    expect("PRG RAM", write_at(0x6000, 0x2A), 0);
+    expect("locked", write_at(0xA001, 0x00), 0);
+    expect("locked, read", read_at(0x6000), 0);
+    expect("locked, write", write_at(0x6000, 0x33), 0);
+    expect("locked, CHR RAM is written", write_at(0x0000, 0x44), 0);
+    expect("locked, CHR RAM is read", read_at(0x0000), 0x44);
+    expect("denied", write_at(0xBFFF, 0xC0), 0);
+    expect("denied, read", read_at(0x6000), 0x2A);
+    expect("denied, write", write_at(0x6000, 0x33), 0);
+    expect("open", write_at(0xB001, 0x80), 0);
+    expect("the byte from before the lock", read_at(0x6000), 0x2A);
+    expect("locked again", write_at(0xA001, 0x40), 0);
+    expect("a load", load(BIEKKARUL_BOARD), 0);
+    expect("enabled at load", enabled(), 1);
+    expect("writable at load", denied(), 0);
+}
+
+/* Where the image has no PRG RAM the marks are set and change nothing. */
+static void check_marks_of_no_ram(void) {
+    unsigned setting;
+    start_marked(MMC3 * 16, 2, 0, 0x00, BIEKKARUL_BOARD);
+    memset(now.prg_ram, 0x5A, BIEKKARUL_RAM_LENGTH);
+    for (setting = 0; setting < 4; setting++) {
+        expect("without PRG RAM, a setting", write_at(0xA001, setting * 64), 0);
+        expect("without PRG RAM, the marks", 2 * enabled() + denied(), setting);
+        keep();
+        expect("without PRG RAM, read", read_at(0x6000), 0);
+        expect("without PRG RAM, write", write_at(0x7FFF, 0x33), 0);
+        expect_untouched("a write to no PRG RAM");
+        clock_once();
+    }
+}
+
+/* In house mode, and on the other boards in both, no write leaves RAM another setting, and a state with one is none. */
+static void check_marks_elsewhere(unsigned mapper, unsigned mode) {
+    unsigned value, setting;
+    start(mapper * 16, 2, 0, mode);
+    for (value = 0; value < 256; value++) {
+        write_at(0xA001, value);
+        write_at(0xBFFF, value);
+        expect("RAM stays enabled", enabled(), 1);
+        expect("RAM stays writable", denied(), 0);
+    }
+    if (mapper == MMC1 || mapper == MMC3) check_ram(1, 0);
+    for (setting = 0; setting < 4; setting++) {
+        set_marks(now.state, setting);
+        keep();
+        expect("RAM's marks in a state", read_at(0x6000) == REFUSED(BIEKKARUL_STATE_OUT_OF_RANGE), setting != 2);
+        expect_untouched("a read of that state");
+    }
+}
+
+static void check_marks(void) {
+    unsigned mapper, setting;
+    start(MMC3 * 16, 2, 1, BIEKKARUL_BOARD);
+    check_marks_at(0xA001);
+    check_marks_at(0xAFFF);
+    check_marks_at(0xB001);
+    check_marks_at(0xBFFF);
+    for (setting = 0; setting < 4; setting++) check_marks_stay(setting);
+    check_lock();
+    check_marks_of_no_ram();
+    check_marks_elsewhere(MMC3, BIEKKARUL_HOUSE);
+    for (mapper = NROM; mapper < MMC3; mapper++) {
+        check_marks_elsewhere(mapper, BIEKKARUL_HOUSE);
+        check_marks_elsewhere(mapper, BIEKKARUL_BOARD);
+    }
+}
+
 static void check_house_refusals(void) {
     start(UXROM * 16, 2, 0, BIEKKARUL_HOUSE);
     expect("a bank past the data", write_at(0x8000, 255), BIEKKARUL_NO_NOTICE);
@@ -804,7 +960,8 @@ static void check_names(void) {
     expect("a refusal", BIEKKARUL_IS_REFUSED(256), 1);
     expect("an answer", BIEKKARUL_IS_REFUSED(255), 0);
     expect("a refusal's number", BIEKKARUL_REFUSAL(256 + 14), 14);
-    expect("an answer below what moved", BIEKKARUL_IS_REFUSED(BIEKKARUL_CHR_MOVED | BIEKKARUL_PRG_MOVED), 0);
+    expect("an answer below what moved",
+           BIEKKARUL_IS_REFUSED(BIEKKARUL_CHR_MOVED | BIEKKARUL_PRG_MOVED | BIEKKARUL_RAM_MOVED), 0);
     expect("the library's version", biekkarul_version(), BIEKKARUL_VERSION);
 }
 
@@ -822,9 +979,11 @@ int main(void) {
     check_p7_and_p8();
     check_p9_to_p12();
     check_line();
+    check_marks();
     check_house_refusals();
     check_notices();
     check_states();
+    check_locked_states();
     check_marked_states();
     printf("calls: %lu checks, %lu failed\n", checks, failures);
     return failures != 0;

@@ -1,9 +1,9 @@
 /*
  * biekkarul_pages and biekkarul_write_moved, against the calls that they stand beside and against the second reading of
  * the boards in trials/model.h: five boards, both modes, images of many shapes, NES 2.0 with and without PRG RAM, states
- * that random writes reach, banks past the data among them. A map that is made anew only where an answer says so must always be the whole map; a read
- * or a write through any of its pages must be the call's and the model's; lengths that do not fit and states that are
- * none must be refused with nothing changed.
+ * that random writes reach, banks past the data and locked RAM among them. A map that is made anew only where an answer
+ * says so must always be the whole map; a read or a write through any of its pages must be the call's and the model's;
+ * lengths that do not fit and states that are none must be refused with nothing changed.
  */
 #include "model.h"
 
@@ -18,6 +18,7 @@
 #define CHR_PAGES 8u
 #define FIRST_PRG_PAGE 32u
 #define FIRST_RAM_PAGE 24u /* 6000 */
+#define RAM_PAGES 8u
 
 static unsigned long checks, failures;
 
@@ -198,6 +199,20 @@ static void check_every_address(void) {
     for (address = 0; address < 0x10000; address++) check_read(address);
 }
 
+/* From page first to the one before end the numbers are those of the load. */
+static void expect_stay(const char *what, const uint32_t *numbers, const uint32_t *loaded, unsigned first, unsigned end) {
+    expect(what, memcmp(numbers + first, loaded + first, (end - first) * sizeof *numbers) != 0, 0);
+}
+
+/* Of pages 24 to 31 only MMC3's may move, in board mode. */
+static void check_what_stays(const struct map *whole) {
+    const int may_be_locked = model.mapper == MMC3 && model.board_mode;
+    const unsigned middle_end = may_be_locked ? FIRST_RAM_PAGE : FIRST_PRG_PAGE;
+    expect_stay("pages 8 to 23, or 31, stay", whole->reads, loaded_map.reads, CHR_PAGES, middle_end);
+    expect_stay("so do those of writes", whole->writes, loaded_map.writes, CHR_PAGES, middle_end);
+    expect_stay("pages 32 to 63 of writes stay", whole->writes, loaded_map.writes, FIRST_PRG_PAGE, BIEKKARUL_PAGES);
+}
+
 /* Of the map only what an answer says has moved is made anew; what has not moved must be as it was. */
 static void refill(unsigned answer) {
     struct map whole;
@@ -205,16 +220,16 @@ static void refill(unsigned answer) {
     if (answer & BIEKKARUL_PRG_MOVED)
         expect("pages 32 to 63 of reads",
                pages(FIRST_PRG_PAGE, map.reads + FIRST_PRG_PAGE, BIEKKARUL_PAGES - FIRST_PRG_PAGE, map.writes, 0), 0);
+    if (answer & BIEKKARUL_RAM_MOVED)
+        expect("pages 24 to 31", pages(FIRST_RAM_PAGE, map.reads + FIRST_RAM_PAGE, RAM_PAGES, map.writes + FIRST_RAM_PAGE,
+                                       RAM_PAGES), 0);
     whole = whole_map();
     expect("the map kept up is the whole one", memcmp(&map, &whole, sizeof map) != 0, 0);
-    expect("pages 8 to 31 stay", memcmp(whole.reads + CHR_PAGES, loaded_map.reads + CHR_PAGES,
-                                        (FIRST_PRG_PAGE - CHR_PAGES) * sizeof *map.reads) != 0, 0);
-    expect("pages 8 to 63 of writes stay", memcmp(whole.writes + CHR_PAGES, loaded_map.writes + CHR_PAGES,
-                                                  (BIEKKARUL_PAGES - CHR_PAGES) * sizeof *map.writes) != 0, 0);
+    check_what_stays(&whole);
 }
 
-/* Any write, by both calls and in the model; then the map is kept up. Answers whether a page may have moved. */
-static int check_write(unsigned address, unsigned value) {
+/* Any write, by both calls and in the model; then the map is kept up. Answers the bits of what may have moved. */
+static unsigned check_write(unsigned address, unsigned value) {
     const struct model was = model;
     const unsigned wanted = model_write(&model, address, value), got = write_moved(address, value);
     expect("the answer of biekkarul_write_moved", got & 0xFFFF, wanted);
@@ -223,7 +238,7 @@ static int check_write(unsigned address, unsigned value) {
     expect("and leaves the same", (unsigned long)same_buffers(), 1);
     rams_as_the_model_has();
     refill(got);
-    return got > 0xFFFF;
+    return got & ~0xFFFFu;
 }
 
 static void check_clock(void) {
@@ -233,16 +248,21 @@ static void check_clock(void) {
     refill(0);
 }
 
+/* A write to one of MMC3's registers; one of RAM's marks has each setting about as often as the others. */
+static unsigned move_mmc3(unsigned value) {
+    static const unsigned registers[5] = {0x8000, 0x8001, 0x8001, 0xA001, 0xE000};
+    const unsigned first = registers[below(5)];
+    return check_write(first + 2 * below(0x1000), first == 0xA001 || below(2) ? value | below(4) * 64 : value);
+}
+
 /* A write that is likely to move a bank: MMC1 takes five for that, the value's bits from the lowest up. */
-static int move_a_bank(void) {
-    static const unsigned mmc3[4] = {0x8000, 0x8001, 0x8001, 0xE000};
-    unsigned address = 0x8000 + below(0x8000), value = below(3) ? below(24) : below(256), bit;
-    int moved = 0;
+static unsigned move_a_bank(void) {
+    unsigned address = 0x8000 + below(0x8000), value = below(3) ? below(24) : below(256), bit, moved = 0;
     switch (model.mapper) {
     case MMC1:
         for (bit = 0; bit < 5; bit++) moved |= check_write(address, value >> bit & 1);
         return moved;
-    case MMC3: return check_write(mmc3[below(4)] + 2 * below(0x800), below(2) ? value | below(4) * 64 : value);
+    case MMC3: return move_mmc3(value);
     default: return check_write(address, value);
     }
 }
@@ -327,6 +347,58 @@ static void check_ram_pages(unsigned mapper, unsigned mode, unsigned byte10) {
     }
 }
 
+/* 24 to 31 of MMC3 in board mode with these marks: of reads where RAM is enabled, of writes where it is writable too. */
+static void check_locked_pages(int there, unsigned enabled, unsigned denied) {
+    unsigned page;
+    for (page = FIRST_RAM_PAGE; page < FIRST_PRG_PAGE; page++) {
+        const unsigned in_ram = (1u << 28) + (page - FIRST_RAM_PAGE) * BIEKKARUL_PAGE_LENGTH, nowhere = 3u << 28;
+        expect("a page of 6000-7FFF, read", map.reads[page], there && enabled ? in_ram : nowhere);
+        expect("a page of 6000-7FFF, written", map.writes[page], there && enabled && !denied ? in_ram : nowhere);
+    }
+}
+
+/*
+ * From each setting of the two marks to each (M-111): the write says that they move just where one of them does, also where
+ * there is no PRG RAM, and says nothing else. What RAM holds shows again once it is open.
+ */
+static void check_settings(unsigned byte10) {
+    unsigned from, to;
+    load_marked(MMC3, BIEKKARUL_BOARD, 2, 4, byte10);
+    check_store(0x6000, 0x5A);
+    for (from = 0; from < 4; from++) {
+        for (to = 0; to < 4; to++) {
+            check_write(0xA001, from * 64);
+            expect("moved marks", check_write(0xBFFF, to * 64 + below(64)), from == to ? 0 : BIEKKARUL_RAM_MOVED);
+            check_locked_pages(byte10 != 0x00, to / 2, to % 2);
+            expect("an even write moves no mark", check_write(0xA000, below(256)), 0);
+            check_clock();
+            check_every_page();
+        }
+    }
+}
+
+/* In house mode, and on other boards, pages 24 to 31 stay and no write says that they move. */
+static void check_no_settings(unsigned mapper, unsigned mode) {
+    unsigned bits;
+    load(mapper, mode, 2, 4);
+    for (bits = 0; bits < 4; bits++) {
+        expect("no marks move", check_write(0xA001, bits * 64) & BIEKKARUL_RAM_MOVED, 0);
+        expect("no marks move", check_write(0xBFFF, bits * 64) & BIEKKARUL_RAM_MOVED, 0);
+        check_every_page();
+    }
+}
+
+static void check_marks(void) {
+    unsigned mapper;
+    check_settings(0x00);
+    check_settings(0x07);
+    check_settings(0x70);
+    for (mapper = NROM; mapper <= MMC3; mapper++) {
+        check_no_settings(mapper, BIEKKARUL_HOUSE);
+        if (mapper != MMC3) check_no_settings(mapper, BIEKKARUL_BOARD);
+    }
+}
+
 static void check_prg_ram_pages(void) {
     unsigned mode;
     for (mode = BIEKKARUL_HOUSE; mode <= BIEKKARUL_BOARD; mode++) {
@@ -340,8 +412,7 @@ static void check_prg_ram_pages(void) {
 /* MMC3's line in board mode (M-101): no page moves where it is raised, where it stays up and where it is acknowledged. */
 static void check_line(void) {
     static const unsigned leave_it[4] = {0xC000, 0xC001, 0xA000, 0xE001};
-    unsigned i;
-    int moved;
+    unsigned i, moved;
     load(MMC3, BIEKKARUL_BOARD, 2, 4);
     check_write(0xE001, 0);
     check_clock();
@@ -388,6 +459,7 @@ static void check_lengths(void) {
         write_moved(0x8000, i);
         write_moved(0x8001, 9 * i + 4);
     }
+    write_moved(0xA001, 0xC0); /* denied: reads and writes of 24 to 31 differ */
     whole = whole_map();
     for (first = 0; first < 256; first++) {
         for (i = 0; i < count; i++)
@@ -498,6 +570,7 @@ static void check_names(void) {
     expect("64 pages of 1 KB", BIEKKARUL_PAGES * BIEKKARUL_PAGE_LENGTH, 0x10000);
     expect("the bit of CHR", BIEKKARUL_CHR_MOVED, 1u << 16);
     expect("the bit of PRG", BIEKKARUL_PRG_MOVED, 1u << 17);
+    expect("the bit of RAM", BIEKKARUL_RAM_MOVED, 1u << 18);
 }
 
 int main(void) {
@@ -512,6 +585,7 @@ int main(void) {
     check_prg_ram_pages();
     check_marked_boards();
     check_line();
+    check_marks();
     printf("pages: %lu checks, %lu failed\n", checks, failures);
     return failures != 0;
 }

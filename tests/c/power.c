@@ -64,11 +64,18 @@ static unsigned power_cycle(void) {
 
 static unsigned clock_once(void) { return biekkarul_clock(now.state, sizeof now.state); }
 
-static unsigned line(void) {
+static unsigned get(uint16_t address) {
+    return biekkarul_read(now.state, sizeof now.state, image, sizeof image, now.prg_ram, sizeof now.prg_ram,
+                          now.chr_ram, sizeof now.chr_ram, address);
+}
+
+static unsigned digit(enum biekkarul_digit place) {
     uint64_t digits[BIEKKARUL_DIGITS];
     expect("a state", biekkarul_digits(now.state, sizeof now.state, digits, BIEKKARUL_DIGITS), 0);
-    return (unsigned)digits[BIEKKARUL_DIGIT_MMC3_IRQ_LINE];
+    return (unsigned)digits[place];
 }
+
+static unsigned line(void) { return digit(BIEKKARUL_DIGIT_MMC3_IRQ_LINE); }
 
 /*
  * Moved registers, a saved byte and a drawn one; then off and on. The drawn one is put there by hand, since house
@@ -110,6 +117,26 @@ static void check_line_falls(void) {
     expect("and stays low", clock_once(), 0);
 }
 
+/* A power cycle unlocks MMC3's RAM, which this byte had locked, and keeps what was saved in it. */
+static void check_unlocks(uint8_t marks) {
+    load(4, BIEKKARUL_BOARD);
+    put(0x6000, 0x2A);
+    put(0x7FFF, 0x2B);
+    put(0xA001, marks);
+    put(0x6000, 0x33);
+    expect("locked RAM keeps its byte", now.prg_ram[0], 0x2A);
+    before = now;
+    expect("the power cycle", power_cycle(), 0);
+    expect("registers as a load leaves them", memcmp(now.state, loaded.state, sizeof now.state) != 0, 0);
+    expect("RAM is enabled", digit(BIEKKARUL_DIGIT_RAM_ENABLED), 1);
+    expect("and writable", digit(BIEKKARUL_DIGIT_RAM_WRITES_DENIED), 0);
+    expect("PRG RAM kept", memcmp(now.prg_ram, before.prg_ram, sizeof now.prg_ram) != 0, 0);
+    expect("a saved byte", get(0x6000), 0x2A);
+    expect("the last saved byte", get(0x7FFF), 0x2B);
+    put(0x6000, 0x33);
+    expect("RAM is written again", get(0x6000), 0x33);
+}
+
 /* In house mode a return to the header's mirroring gives no notice, so the screens stay turned; on a board they turn. */
 static void check_turned_back(uint8_t mode, unsigned wanted) {
     load(1, mode);
@@ -149,6 +176,9 @@ int main(void) {
     check_cycle(4, BIEKKARUL_HOUSE);
     check_cycle(4, BIEKKARUL_BOARD);
     check_line_falls();
+    check_unlocks(0x00);
+    check_unlocks(0x40);
+    check_unlocks(0xC0);
     check_turned_back(BIEKKARUL_HOUSE, BIEKKARUL_LOWER);
     check_turned_back(BIEKKARUL_BOARD, BIEKKARUL_HORIZONTAL);
     check_refusals();

@@ -68,7 +68,7 @@ moved Nrom mode r v a = asking r AsBefore
 moved Mmc1 mode r v a = let w = mmc1-write.written mode (r .mmc1) v a in asking (withMmc1 r (w .mmc1)) (w .mirrors)
 moved Uxrom mode r v a = asking (withUxrom r (uxrom.written (r .uxrom) v a)) AsBefore
 moved Cnrom mode r v a = asking (withCnrom r (cnrom.written (r .cnrom) v a)) AsBefore
-moved Mmc3 mode r v a = let w = mmc3-write.written (r .mmc3) v a in asking (withMmc3 r (w .mmc3)) (w .mirrors)
+moved Mmc3 mode r v a = let w = mmc3-write.written mode (r .mmc3) v a in asking (withMmc3 r (w .mmc3)) (w .mirrors)
 
 -- the registers after a clock of MMC3, whose unit and line move
 abbrev pub mmc3Ticked : Mode → Registers → Ticked

@@ -178,7 +178,7 @@ impl Registers {
                 self.asking(Mirrors::AsBefore)
             }
             MapperType::Mmc3 => {
-                let wrote = mmc3.write8(value, address);
+                let wrote = mmc3.write8(mode, value, address);
                 let next = wrote.mmc3;
                 let mirrors = wrote.mirrors;
                 self.mmc3 = next;

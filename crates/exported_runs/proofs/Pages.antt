@@ -95,16 +95,21 @@ module _ (s : List ℕ) (b : Board) (h : Holds s b) where
         w = boards.writtenAs b (boards.landing b image prg chr a) v a
 
         chr-unset : r / 0x10000 % 2 ≡ 0 → movedParts b (w .board) .chr ≡ false
-        chr-unset e = unset _ (sym (answer-parts (w .answer) (movedParts b (w .board)) .1) ∙ ap (λ (x : ℕ). x / 0x10000 % 2) (sym (moved-of o)) ∙ e)
+        chr-unset e = unset _ (sym (answer-parts (w .answer) (movedParts b (w .board)) .chr) ∙ ap (λ (x : ℕ). x / 0x10000 % 2) (sym (moved-of o)) ∙ e)
 
-        prg-unset : r / 0x20000 ≡ 0 → movedParts b (w .board) .prg ≡ false
-        prg-unset e = unset _ (sym (answer-parts (w .answer) (movedParts b (w .board)) .2) ∙ ap (λ (x : ℕ). x / 0x20000) (sym (moved-of o)) ∙ e)
+        prg-unset : r / 0x20000 % 2 ≡ 0 → movedParts b (w .board) .prg ≡ false
+        prg-unset e = unset _ (sym (answer-parts (w .answer) (movedParts b (w .board)) .prg) ∙ ap (λ (x : ℕ). x / 0x20000 % 2) (sym (moved-of o)) ∙ e)
 
-        pub unnamed-reads : (p < 8 → r / 0x10000 % 2 ≡ 0) → (32 ≤ p → r / 0x20000 ≡ 0) → readPage (w .board) p ≡ readPage b p
-        unnamed-reads f g = write-reads b (boards.landing b image prg chr a) v a p (λ l. chr-unset (f l)) (λ l. prg-unset (g l))
+        ram-unset : r / 0x40000 ≡ 0 → movedParts b (w .board) .ram ≡ false
+        ram-unset e = unset _ (sym (answer-parts (w .answer) (movedParts b (w .board)) .ram) ∙ ap (λ (x : ℕ). x / 0x40000) (sym (moved-of o)) ∙ e)
 
-        pub unnamed-writes : (p < 8 → r / 0x10000 % 2 ≡ 0) → writePage (w .board) p ≡ writePage b p
-        unnamed-writes f = write-writes b (boards.landing b image prg chr a) v a p (λ l. chr-unset (f l))
+        module _ (chr-unnamed : p < 8 → r / 0x10000 % 2 ≡ 0) (ram-unnamed : 24 ≤ p → p < 32 → r / 0x40000 ≡ 0) where
+          pub unnamed-reads : (32 ≤ p → r / 0x20000 % 2 ≡ 0) → readPage (w .board) p ≡ readPage b p
+          unnamed-reads g =
+              write-reads b (boards.landing b image prg chr a) v a p (λ l. chr-unset (chr-unnamed l)) (λ m l. ram-unset (ram-unnamed m l)) (λ l. prg-unset (g l))
+
+          pub unnamed-writes : writePage (w .board) p ≡ writePage b p
+          unnamed-writes = write-writes b (boards.landing b image prg chr a) v a p (λ l. chr-unset (chr-unnamed l)) (λ m l. ram-unset (ram-unnamed m l))
 
         pub write-below : r % 0x10000 ≡ writeNumber (w .answer)
-        write-below = ap (λ (x : ℕ). x % 0x10000) (moved-of o) ∙ answer-parts (w .answer) (movedParts b (w .board)) .0
+        write-below = ap (λ (x : ℕ). x % 0x10000) (moved-of o) ∙ answer-parts (w .answer) (movedParts b (w .board)) .write

@@ -60,10 +60,10 @@ unfolding dataBits
 kept-byte n v h = either Byte (ltb n 2) (omega arith) (either Byte (leb 6 n) (omega arith) h)
 
 -- only a data write and the latch's put a byte into MMC3
-written-typed : (m : mmc3-type.Mmc3) → TypedMmc3 m → (v a : ℕ) → Byte v → TypedMmc3 (written m v a .mmc3)
+written-typed : (mode : Mode) (m : mmc3-type.Mmc3) → TypedMmc3 m → (v a : ℕ) → Byte v → TypedMmc3 (written mode m v a .mmc3)
 unfolding written moveOf applied withIrq
-written-typed m t v a h =
-    let P : Move → Type 0 = λ w. TypedMmc3 (applied w m) in
+written-typed mode m t v a h =
+    let P : Move → Type 0 = λ w. TypedMmc3 (applied mode w m) in
     either P (ltb a 0x8000) t
     (either P (ltb a 0xA000) (either P (isEven a) t (put-fits 8 (m .regs) (m .select) (dataBits (m .select) v) (kept-byte (m .select) v h) (t .0), t .1))
     (either P (ltb a 0xC000) (either P (isEven a) t t)
@@ -88,7 +88,7 @@ moved-typed Nrom mode r v a h t = t
 moved-typed Mmc1 mode r v a h t = t
 moved-typed Uxrom mode r v a h t = (either (λ (u : uxrom-type.Uxrom). Byte (u .bank)) (ltb a 0x8000) (t .0) h, t .1)
 moved-typed Cnrom mode r v a h t = t
-moved-typed Mmc3 mode r v a h t = (t .0, written-typed (r .mmc3) (t .1) v a h)
+moved-typed Mmc3 mode r v a h t = (t .0, written-typed mode (r .mmc3) (t .1) v a h)
 
 ticked-typed : (k : MapperType) (mode : Mode) (r : Registers) → Typed r → Typed (ticked k mode r .registers)
 unfolding ticked clocked withIrq

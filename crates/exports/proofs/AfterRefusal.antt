@@ -89,7 +89,7 @@ none-moved b (Refused why) v a h = ap movedNumber (parts-self (b .cart .mapper) 
 
 module _ (s image prg chr : List ℕ) (a v r : ℕ) (s′ prg′ chr′ : List ℕ) (o : WriteMovedOwes s image prg chr a v r s′ prg′ chr′) (h : IsRefusal (writeAnswer r)) where
   answer-is : writeAnswer r ≡ writeNumber (writtenAs (boardIn s) (writing s image prg chr a) v a .answer)
-  answer-is = ap writeAnswer (o .reply) ∙ answer-parts (writtenAs (boardIn s) (writing s image prg chr a) v a .answer) (movedPages s image prg chr a v) .0
+  answer-is = ap writeAnswer (o .reply) ∙ answer-parts (writtenAs (boardIn s) (writing s image prg chr a) v a .answer) (movedPages s image prg chr a v) .write
 
   pub write-moved-changes-nothing : AllAsBefore s prg chr s′ prg′ chr′
   write-moved-changes-nothing = write-changes-nothing s image prg chr a v _ s′ prg′ chr′ (o .left) (subst IsRefusal answer-is h)

@@ -1,5 +1,5 @@
 -- What a write tells of the pages stands above its answer: every answer is below 0x10000. Assumes nothing.
-use Prim.Native.Nat.{ℕ, _+_, _/_, _%_, _<_}
+use Prim.Native.Nat.{ℕ, _+_, _*_, _/_, _%_, _<_}
 use mathlib.Core.Path.{_≡_}
 use mathlib.Core.Bool.{Bool, true, false, cond}
 use native.Mathlib.Omega.{arith}
@@ -25,15 +25,29 @@ small (Notice m) = omega (arith, small-letter m)
 small (Refused why) = omega (arith, refusals-few why)
 
 -- the answer that a caller takes apart: the write's below, a bit for each part above
-named : (n : ℕ) → n < 0x10000 → (chr prg : Bool)
-    → ((n + (cond chr 0x10000 0 + cond prg 0x20000 0)) % 0x10000 ≡ n) × ((n + (cond chr 0x10000 0 + cond prg 0x20000 0)) / 0x10000 % 2 ≡ cond chr 1 0) × ((n + (cond chr 0x10000 0 + cond prg 0x20000 0)) / 0x20000 ≡ cond prg 1 0)
-named n h true true = (omega arith, omega arith, omega arith)
-named n h true false = (omega arith, omega arith, omega arith)
-named n h false true = (omega arith, omega arith, omega arith)
-named n h false false = (omega arith, omega arith, omega arith)
+pub record Apart (r n : ℕ) (p : Parts) : Type 0 where
+  pub write : r % 0x10000 ≡ n
+  pub chr : r / 0x10000 % 2 ≡ cond (p .chr) 1 0
+  pub prg : r / 0x20000 % 2 ≡ cond (p .prg) 1 0
+  pub ram : r / 0x40000 ≡ cond (p .ram) 1 0
+
+-- a bit is its value times 0 or 1
+as-product : (t : Bool) (v : ℕ) → cond t v 0 ≡ v * cond t 1 0
+as-product true v = omega arith
+as-product false v = omega arith
+
+one-bit : (t : Bool) → cond t 1 0 < 2
+one-bit true = omega arith
+one-bit false = omega arith
 
 -- of any answer of a write
-pub answer-parts : (w : WriteAnswer) (p : Parts)
-    → ((writeNumber w + movedNumber p) % 0x10000 ≡ writeNumber w) × ((writeNumber w + movedNumber p) / 0x10000 % 2 ≡ cond (p .chr) 1 0) × ((writeNumber w + movedNumber p) / 0x20000 ≡ cond (p .prg) 1 0)
+pub answer-parts : (w : WriteAnswer) (p : Parts) → Apart (writeNumber w + movedNumber p) (writeNumber w) p
 unfolding movedNumber
-answer-parts w p = named (writeNumber w) (small w) (p .chr) (p .prg)
+answer-parts w p =
+    rw (as-product (p .chr) 0x10000, as-product (p .prg) 0x20000, as-product (p .ram) 0x40000)
+    (record {
+      write = omega (arith, small w);
+      chr = omega (arith, small w, one-bit (p .chr));
+      prg = omega (arith, small w, one-bit (p .chr), one-bit (p .prg));
+      ram = omega (arith, small w, one-bit (p .chr), one-bit (p .prg));
+    })

@@ -10,9 +10,9 @@ use Rattle.pages.specs.declared.PagesAnswer.{PagesAnswer}
 use Rattle.pages.specs.declared.PagesAnswer.the-variants.{Told, Refused as NotTold}
 unfoldable pub use Rattle.boards.specs.Numbers.{refused, headerNumber, readNumber, writeNumber, clockNumber, loadNumber}
 
--- above a write's answer: 0x10000 where pages 0 to 7 may have moved, 0x20000 where pages 32 to 63 may
+-- above a write's answer: 0x10000 where pages 0 to 7 may have moved, 0x20000 where pages 32 to 63 may, 0x40000 where pages 24 to 31 may
 unfoldable pub movedNumber : Parts → ℕ
-movedNumber p = cond (p .chr) 0x10000 0 + cond (p .prg) 0x20000 0
+movedNumber p = cond (p .chr) 0x10000 0 + cond (p .prg) 0x20000 0 + cond (p .ram) 0x40000 0
 
 -- the pages: 0
 unfoldable pub pagesNumber : PagesAnswer → ℕ
@@ -32,6 +32,6 @@ unfoldable pub fieldsAfter : HeaderAnswer → List ℕ → List ℕ
 fieldsAfter (Read h) f = fieldsOf h
 fieldsAfter (Refused why) f = f
 
--- "The version of the exported calls is 4": it grows where a call is added, or a call, an answer or what a caller owes becomes another
+-- "The version of the exported calls is 5": it grows where a call is added, or a call, an answer or what a caller owes becomes another
 abbrev pub version : ℕ
-version = 4
+version = 5

@@ -1,6 +1,7 @@
 // The boards for callers that are not Rattle: numbers and byte slices, the board as 40 lent bytes.
 // No rule of a board stands here: a call decodes the state, calls the board and keeps what moved.
 ghost use mathlib.Core.Path.{_≡_};
+ghost use mathlib.Core.Bool.{cond};
 ghost use mathlib.Core.List.{[], _∷_};
 ghost use Prim.Native.Nat.{_+_, _≤_};
 ghost use lib.ListN.{length};
@@ -74,15 +75,18 @@ fn load_number(answer: LoadAnswer) -> u16
     }
 }
 
+// The value of a bit where it is set, else 0.
+fn bit(set: bool, value: u32) -> u32
+    ensures { λ r. ⌜ (r ≡ cond set value 0) × (r ≤ value) ⌝ }
+{
+    if set { value } else { 0 }
+}
+
 // Above a write's answer: which pages it may have moved.
 fn moved_number(parts: Parts) -> u32
-    ensures { λ r. ⌜ (r ≡ movedNumber parts) × (r ≤ 0x30000) ⌝ }
+    ensures { λ r. ⌜ (r ≡ movedNumber parts) × (r ≤ 0x70000) ⌝ }
 {
-    if parts.chr {
-        if parts.prg { 0x3_0000 } else { 0x1_0000 }
-    } else {
-        if parts.prg { 0x2_0000 } else { 0 }
-    }
+    bit(parts.chr, 0x1_0000) + bit(parts.prg, 0x2_0000) + bit(parts.ram, 0x4_0000)
 }
 
 fn pages_number(answer: PagesAnswer) -> u16
@@ -428,5 +432,5 @@ pub extern "C" fn biekkarul_header(image: &[u8], fields: &mut [u8]) -> u16
 pub extern "C" fn biekkarul_version() -> u32
     ensures { λ r. ⌜ r ≡ version ⌝ }
 {
-    4
+    5
 }

@@ -26,7 +26,7 @@ use Rattle.laws.proofs.Accepting.{after-write}
 use Rattle.laws.proofs.Clocks.{ready}
 use Rattle.laws.proofs.OneImage.{wrote-one}
 
-pub moved-mmc3 : (b : Board) → b .cart .mapper ≡ Mmc3 → (v a : ℕ) → acceptedWrite b v a .board .registers .mmc3 ≡ applied (moveOf v a) (b .registers .mmc3)
+pub moved-mmc3 : (b : Board) → b .cart .mapper ≡ Mmc3 → (v a : ℕ) → acceptedWrite b v a .board .registers .mmc3 ≡ applied (b .cart .mode) (moveOf v a) (b .registers .mmc3)
 unfolding acceptedWrite turned moved written
 moved-mmc3 b e v a = ap (λ (k : MapperType). moved k (b .cart .mode) (b .registers) v a .registers .mmc3) e
 
@@ -46,14 +46,14 @@ module _ (b : Board) (ok : inRange b ≡ true) (is-mmc3 : b .cart .mapper ≡ Mm
 
 -- an accepted write leaves what its move makes
 pub accepted-mmc3 : (b : Board) → b .cart .mapper ≡ Mmc3 → (w : LentWrite) (k : Move) → accepts b (w .lent) (w .address) ≡ true → moveOf (w .byte) (w .address) ≡ k
-    → wrote b w .registers .mmc3 ≡ applied k (b .registers .mmc3)
+    → wrote b w .registers .mmc3 ≡ applied (b .cart .mode) k (b .registers .mmc3)
 unfolding next
 accepted-mmc3 b is-mmc3 w k e f =
     let l = w .lent in
     ap (λ (x : Board). x .registers .mmc3) (after-write b (landing b (l .image) (l .prg) (l .chr) (w .address)) (w .byte) (w .address))
     ∙ ap (λ (t : Bool). cond t (acceptedWrite b (w .byte) (w .address) .board) b .registers .mmc3) e
     ∙ moved-mmc3 b is-mmc3 (w .byte) (w .address)
-    ∙ ap (λ (x : Move). applied x (b .registers .mmc3)) f
+    ∙ ap (λ (x : Move). applied (b .cart .mode) x (b .registers .mmc3)) f
 
 -- an acknowledging write leaves the line low and IRQ disabled
 pub acknowledged : (b : Board) → b .cart .mapper ≡ Mmc3 → (w : LentWrite) → Acknowledges b w → (lineUp (wrote b w) ≡ false) × (wrote b w .registers .mmc3 .irq .enabled ≡ false)
@@ -74,12 +74,12 @@ module _ {b d : Board} (o : OneImage Mmc3 b d) (w : Arming) where
   armed-one = wrote-one reloaded-one (w .enable)
 
   module _ (p : Accepts b w) where
-    armed-mmc3 : armed b w .registers .mmc3 ≡ applied Enable (applied Reload (applied (Latch (w .latch .byte)) (b .registers .mmc3)))
+    armed-mmc3 : armed b w .registers .mmc3 ≡ applied (reloaded b w .cart .mode) Enable (applied (latched b w .cart .mode) Reload (applied (b .cart .mode) (Latch (w .latch .byte)) (b .registers .mmc3)))
     armed-mmc3 =
         accepted-mmc3 (reloaded b w) (reloaded-one .mapper) (w .enable) Enable (p .enable) (p .is-enable)
-        ∙ ap (applied Enable)
+        ∙ ap (applied (reloaded b w .cart .mode) Enable)
         (accepted-mmc3 (latched b w) (latched-one .mapper) (w .reload) Reload (p .reload) (p .is-reload)
-        ∙ ap (applied Reload) (accepted-mmc3 b (o .mapper) (w .latch) (Latch (w .latch .byte)) (p .latch) (p .is-latch)))
+        ∙ ap (applied (latched b w .cart .mode) Reload) (accepted-mmc3 b (o .mapper) (w .latch) (Latch (w .latch .byte)) (p .latch) (p .is-latch)))
 
     pub armed-irq : armed b w .registers .mmc3 .irq ≡ ready (w .latch .byte) (b .registers .mmc3 .irq .counter)
     unfolding applied mmc3-clock.withIrq

@@ -6,7 +6,7 @@ use native.Mathlib.Omega.{arith}
 use Rattle.common.specs.declared.Mode.{Mode}
 use Rattle.cartridge.specs.declared.Cartridge.{Cartridge}
 use Rattle.mmc3.specs.Clock.{clocked}
-use Rattle.mmc3.specs.Write.{applied}
+use Rattle.mmc3.specs.Write.{moveOf, applied}
 use Rattle.mmc3.specs.declared.Mmc3 as mmc3-type
 use Rattle.mmc3.specs.declared.Move.{Move}
 use Rattle.boards.specs.Write.{landing}
@@ -38,7 +38,7 @@ plays-next p l e = plays-after p (call l e ∷ [])
 -- the board after a deed
 abbrev pub mmc3After : Mode → Deed → mmc3-type.Mmc3 → mmc3-type.Mmc3
 mmc3After mode rests m = m
-mmc3After mode (writes k) m = applied k m
+mmc3After mode (writes k) m = applied mode k m
 mmc3After mode clocks m = clocked mode m .mmc3
 
 next-mmc3 : {mode : Mode} {b : Board} → Plays mode b → (l : Lent) (e : Event) → next b l e .registers .mmc3 ≡ mmc3After mode (deed b l e) (b .registers .mmc3)
@@ -46,7 +46,8 @@ unfolding next deed
 next-mmc3 p l (Read a) = refl
 next-mmc3 {mode} {b} p l (Write a v) =
     ap (λ (x : Board). x .registers .mmc3) (after-write b (landing b (l .image) (l .prg) (l .chr) a) v a)
-    ∙ alike (λ (x : Board) (d : Deed). x .registers .mmc3 ≡ mmc3After mode d (b .registers .mmc3)) (accepts b l a) (moved-mmc3 b (p .is-mmc3) v a) refl
+    ∙ alike (λ (x : Board) (d : Deed). x .registers .mmc3 ≡ mmc3After mode d (b .registers .mmc3)) (accepts b l a)
+    (moved-mmc3 b (p .is-mmc3) v a ∙ ap (λ (m : Mode). applied m (moveOf v a) (b .registers .mmc3)) (p .in-mode)) refl
 next-mmc3 {mode} {b} p l Clock =
     tick-mmc3 b (p .in-range) (p .is-mmc3) ∙ ap (λ (m : Mode). clocked m (b .registers .mmc3) .mmc3) (p .in-mode)
 

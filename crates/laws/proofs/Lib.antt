@@ -15,6 +15,7 @@ pub mod Numbers
 pub mod FurtherRows
 pub mod Nes2Rows
 pub mod LineRows
+pub mod ProtectionRows
 pub mod Clocks
 pub mod PublicClocks
 pub mod ThreeWrites
@@ -26,6 +27,7 @@ pub mod Useless
 pub mod Choices
 pub mod Loads
 pub mod FiveBits
+pub mod Idle
 pub mod Line
 pub mod Histories
 pub mod SettlesMmc3
@@ -34,6 +36,8 @@ pub mod Demand3
 pub mod SettlesMmc1Met
 pub mod SettlesMmc3Met
 pub mod LineMet
+pub mod Protection
+pub mod ProtectionMet
 pub mod ControlBit4
 pub mod AsBefore
 pub mod Mark

@@ -4,28 +4,19 @@ use Prim.Native.Nat.{ℕ}
 use mathlib.Core.Path.{_≡_, refl, sym, ap, _∙_}
 use mathlib.Core.Bool.{Bool, true, false, false≢true, cond, _&&_, _||_}
 use mathlib.Core.List.{List}
-use lib.ListN.{length}
-use borrow.Author.Tests.{not-true}
 use lib.Dec.{eqb}
 use Rattle.rules.proofs.Bools.{and-left, and-right, either}
 use Rattle.common.specs.declared.Mode.{Mode}
 use Rattle.common.specs.declared.Mode.the-variants.{House, Board as OnBoard}
-use Rattle.cartridge.specs.Load.{load}
 use Rattle.cartridge.specs.Mappers.{isMapper}
-use Rattle.cartridge.specs.declared.Loaded as cartridges
-use Rattle.cartridge.specs.declared.Loaded.the-variants.{Accepted, Refused}
 use Rattle.cartridge.specs.declared.MapperType.the-variants.{Mmc3}
 use Rattle.mmc3.specs.Clock.{withIrq, lineAfter, nextCounter, boardClock, clockIn, clocked}
-use Rattle.mmc3.specs.Range.{start, lineFits, fits, isStart}
 use Rattle.mmc3.specs.Write.{applied}
 use Rattle.mmc3.specs.declared.Irq.{Irq}
 use Rattle.mmc3.specs.declared.Mmc3 as mmc3-type
 use Rattle.mmc3.specs.declared.Move.{Move}
-use Rattle.mmc3.specs.declared.Move.the-variants.{Nothing, Select, Data, Screens, Latch, Reload, Enable, Disable}
-use Rattle.boards.specs.Registers as registers
-use Rattle.boards.specs.Registers.{partFits}
+use Rattle.mmc3.specs.declared.Move.the-variants.{Nothing, Select, Data, Screens, Protect, Latch, Reload, Enable, Disable}
 use Rattle.boards.specs.Range.{inRange}
-use Rattle.boards.specs.Start.{startOf, noBoard, loadedBoard}
 use Rattle.boards.specs.Clock.{yesNo, clock}
 use Rattle.boards.specs.Runs.{Call, after}
 use Rattle.boards.specs.declared.Board.{Board}
@@ -38,71 +29,49 @@ use Rattle.laws.specs.SettlesMmc3.{Acknowledges}
 use Rattle.laws.proofs.Arming.{acknowledged}
 use Rattle.laws.proofs.Clocks.{clock-keeps}
 use Rattle.laws.proofs.Deeds.{mmc3After, stays, plays-after}
-use Rattle.laws.proofs.Mmc3Ranges.{ranged}
+use Rattle.laws.proofs.Idle.{idle-at-load, idle-in-house-mode, idle-on-other-boards}
 use Rattle.laws.proofs.OneImage.{wrote-one}
 use Rattle.laws.proofs.PublicClocks.{itself, plays-on, plays-ticked, yes-no, level-said, level-after}
-use Rattle.laws.proofs.Ranges.{parts, three}
 
--- "The line is low at load", accepted or not
-of-loaded : (x : cartridges.Loaded) → lineUp (loadedBoard x .board) ≡ false
-unfolding loadedBoard noBoard startOf registers.start start
-of-loaded (Accepted c) = refl
-of-loaded (Refused why) = refl
-
+-- "The line is low at load"
 pub low-at-load : (mode : Mode) (s prg chr : List ℕ) → lineUp (loadWith mode s prg chr .board) ≡ false
-low-at-load mode s prg chr = of-loaded (load s mode (length prg) (length chr))
+low-at-load mode s prg chr = idle-at-load mode s prg chr .low
 
-fits-low : (m : mmc3-type.Mmc3) → fits House m ≡ true → m .line ≡ false
-unfolding lineFits
-fits-low m h = not-true (m .line) (ranged House m h .line)
+-- "and always low in house mode"
+pub low-in-house-mode : (b : Board) → b .cart .mode ≡ House → inRange b ≡ true → lineUp b ≡ false
+low-in-house-mode b e h = idle-in-house-mode b e h .low
 
-start-low : (m : mmc3-type.Mmc3) → isStart m ≡ true → m .line ≡ false
-unfolding isStart
-start-low m h = not-true (m .line) (search (and-left, and-right))
-
-module _ (b : Board) where
-  abbrev mmc3 : mmc3-type.Mmc3
-  mmc3 = b .registers .mmc3
-
-  part : inRange b ≡ true → cond (isMapper (b .cart .mapper) Mmc3) (fits (b .cart .mode) mmc3) (isStart mmc3) ≡ true
-  unfolding partFits
-  part h = parts (b .cart .mapper) (b .cart .mode) (b .registers) (three b h .1) .3
-
-  -- "and always low in house mode"
-  pub low-in-house-mode : b .cart .mode ≡ House → inRange b ≡ true → lineUp b ≡ false
-  low-in-house-mode e h =
-      either (λ (t : Bool). t ≡ true → lineUp b ≡ false) (isMapper (b .cart .mapper) Mmc3) (λ f. fits-low mmc3 (ap (λ (mode : Mode). fits mode mmc3) (sym e) ∙ f)) (start-low mmc3) (part h)
-
-  -- "and on other boards"
-  pub low-on-other-boards : isMapper (b .cart .mapper) Mmc3 ≡ false → inRange b ≡ true → lineUp b ≡ false
-  low-on-other-boards e h = start-low mmc3 (ap (λ (own : Bool). cond own (fits (b .cart .mode) mmc3) (isStart mmc3)) (sym e) ∙ part h)
+-- "and on other boards"
+pub low-on-other-boards : (b : Board) → isMapper (b .cart .mapper) Mmc3 ≡ false → inRange b ≡ true → lineUp b ≡ false
+low-on-other-boards b e h = idle-on-other-boards b e h .low
 
 -- of the line and the enable a move leaves both, sets the second, or clears both
-by-move : (P : Bool → Bool → Type 0) (k : Move) (m : mmc3-type.Mmc3) → P (m .line) (m .irq .enabled) → P (m .line) true → (k ≡ Disable → P false false)
-    → P (applied k m .line) (applied k m .irq .enabled)
+by-move : (P : Bool → Bool → Type 0) (mode : Mode) (k : Move) (m : mmc3-type.Mmc3) → P (m .line) (m .irq .enabled) → P (m .line) true → (k ≡ Disable → P false false)
+    → P (applied mode k m .line) (applied mode k m .irq .enabled)
 unfolding applied withIrq
-by-move P Nothing m left set cleared = left
-by-move P (Select v) m left set cleared = left
-by-move P (Data v) m left set cleared = left
-by-move P (Screens v) m left set cleared = left
-by-move P (Latch v) m left set cleared = left
-by-move P Reload m left set cleared = left
-by-move P Enable m left set cleared = set
-by-move P Disable m left set cleared = cleared refl
+by-move P mode Nothing m left set cleared = left
+by-move P mode (Select v) m left set cleared = left
+by-move P mode (Data v) m left set cleared = left
+by-move P mode (Screens v) m left set cleared = left
+by-move P mode (Protect v) m left set cleared = left
+by-move P mode (Latch v) m left set cleared = left
+by-move P mode Reload m left set cleared = left
+by-move P mode Enable m left set cleared = set
+by-move P mode Disable m left set cleared = cleared refl
 
 -- of the writes "an even write to E000-FFFF" alone touches it
-pub other-moves-leave-it : (k : Move) (m : mmc3-type.Mmc3) → (k ≡ Disable → ⊥) → applied k m .line ≡ m .line
-other-moves-leave-it k m other = by-move (λ (line enabled : Bool). line ≡ m .line) k m refl refl (λ e. absurd (other e))
+pub other-moves-leave-it : (mode : Mode) (k : Move) (m : mmc3-type.Mmc3) → (k ≡ Disable → ⊥) → applied mode k m .line ≡ m .line
+other-moves-leave-it mode k m other = by-move (λ (line enabled : Bool). line ≡ m .line) mode k m refl refl (λ e. absurd (other e))
 
 up-stays : (d : Deed) (m : mmc3-type.Mmc3) → (d ≡ writes Disable → ⊥) → m .line ≡ true → mmc3After OnBoard d m .line ≡ true
 unfolding clocked lineAfter
 up-stays rests m other h = h
-up-stays (writes k) m other h = other-moves-leave-it k m (λ e. other (ap writes e)) ∙ h
+up-stays (writes k) m other h = other-moves-leave-it OnBoard k m (λ e. other (ap writes e)) ∙ h
 up-stays clocks m other h = rw h refl
 
 low-stays : (mode : Mode) (d : Deed) (m : mmc3-type.Mmc3) → (d ≡ clocks → ⊥) → m .line ≡ false → mmc3After mode d m .line ≡ false
 low-stays mode rests m other h = h
-low-stays mode (writes k) m other h = by-move (λ (line enabled : Bool). line ≡ false) k m h h (λ e. refl)
+low-stays mode (writes k) m other h = by-move (λ (line enabled : Bool). line ≡ false) mode k m h h (λ e. refl)
 low-stays mode clocks m other h = absurd (other refl)
 
 -- calls with no clock among them leave a low line low
@@ -156,7 +125,7 @@ clock-enabled OnBoard m h up = or-either (m .line) (m .irq .enabled && eqb (next
 stays-enabled : (mode : Mode) (d : Deed) (m : mmc3-type.Mmc3) → Unit {0} → EnabledIfUp m → EnabledIfUp (mmc3After mode d m)
 stays-enabled mode rests m any h = h
 stays-enabled mode (writes k) m any h =
-    by-move (λ (line enabled : Bool). line ≡ true → enabled ≡ true) k m h (λ up. refl) (λ e up. absurd (false≢true up))
+    by-move (λ (line enabled : Bool). line ≡ true → enabled ≡ true) mode k m h (λ up. refl) (λ e up. absurd (false≢true up))
 stays-enabled mode clocks m any h = clock-enabled mode m h
 
 -- no calls lead from a low line to one that is up with IRQ disabled (such a board is in range, `LineRows`): a clock raises it only where IRQ is enabled, and what

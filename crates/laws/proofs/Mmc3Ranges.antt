@@ -1,4 +1,4 @@
--- MMC3's fields stay in range: a data write changes one register and keeps the bits that its range allows, and the line is raised in board mode only. Assumes nothing.
+-- MMC3's fields stay in range: a data write changes one register and keeps the bits that its range allows, and the line is raised and RAM locked in board mode only. Assumes nothing.
 use Prim.Native.Nat.{ℕ, zero, suc, _%_, _≤_, _<_}
 use mathlib.Core.Path.{_≡_, refl, ap, _∙_}
 use mathlib.Core.Logic.{_⊎_, inl, inr, ⊎-elim}
@@ -14,14 +14,16 @@ use Rattle.common.specs.declared.Mode.{Mode}
 use Rattle.common.specs.declared.Mode.the-variants.{House, Board}
 use Rattle.common.specs.declared.Mirrors.{Mirrors}
 use Rattle.common.specs.declared.Mirrors.the-variants.{AsBefore, As}
+use Rattle.mmc3.specs.Ram.{ramStart, marksAfter}
 use Rattle.mmc3.specs.Clock.{withIrq, withLine, lineAfter, clocked, clockIn}
 use Rattle.mmc3.specs.Read.{register}
-use Rattle.mmc3.specs.Write.{moveOf, dataBits, applied, screens, mirrorsOf, written}
-use Rattle.mmc3.specs.Range.{lineFits, fits}
+use Rattle.mmc3.specs.Write.{moveOf, dataBits, withRam, applied, screens, mirrorsOf, written}
+use Rattle.mmc3.specs.Range.{lineFits, ramIsStart, ramFits, fits}
 use Rattle.mmc3.specs.declared.Irq.{Irq}
 use Rattle.mmc3.specs.declared.Mmc3.{Mmc3}
+use Rattle.mmc3.specs.declared.RamMarks.{RamMarks}
 use Rattle.mmc3.specs.declared.Move.{Move}
-use Rattle.mmc3.specs.declared.Move.the-variants.{Nothing, Select, Data, Screens, Latch, Reload, Enable, Disable}
+use Rattle.mmc3.specs.declared.Move.the-variants.{Nothing, Select, Data, Screens, Protect, Latch, Reload, Enable, Disable}
 
 -- after a store an element is as it was, or it is the one stored
 get-set : (l : List ℕ) (i x k : ℕ) → (getD (set l i x) k 0 ≡ getD l k 0) ⊎ ((k ≡ i) × (getD (set l i x) k 0 ≡ x))
@@ -41,12 +43,13 @@ pub record Ranged (mode : Mode) (m : Mmc3) : Type 0 where
   r6 : getD (m .regs) 6 0 < 64
   r7 : getD (m .regs) 7 0 < 64
   pub line : lineFits mode (m .line) ≡ true
+  pub ram : ramFits mode (m .ram) ≡ true
 
 pub ranged : (mode : Mode) (m : Mmc3) → fits mode m ≡ true → Ranged mode m
 unfolding fits register
 ranged mode m e =
-    let s = split-3 (ltb (m .select) 8 && ltb (m .prgmode) 2 && ltb (m .chrmode) 2)
-    (eqb (register m 0 % 2) 0 && eqb (register m 1 % 2) 0 && ltb (register m 6) 64 && ltb (register m 7) 64) (lineFits mode (m .line)) e in
+    let s = split-4 (ltb (m .select) 8 && ltb (m .prgmode) 2 && ltb (m .chrmode) 2)
+    (eqb (register m 0 % 2) 0 && eqb (register m 1 % 2) 0 && ltb (register m 6) 64 && ltb (register m 7) 64) (lineFits mode (m .line)) (ramFits mode (m .ram)) e in
     let p = split-4 (eqb (register m 0 % 2) 0) (eqb (register m 1 % 2) 0) (ltb (register m 6) 64) (ltb (register m 7) 64) (s .1) in
     let q = split-3 (ltb (m .select) 8) (ltb (m .prgmode) 2) (ltb (m .chrmode) 2) (s .0) in
     record {
@@ -58,13 +61,14 @@ ranged mode m e =
       r6 = ltb-true (register m 6) 64 (p .2);
       r7 = ltb-true (register m 7) 64 (p .3);
       line = s .2;
+      ram = s .3;
     }
 
 in-fits : {mode : Mode} (m : Mmc3) → Ranged mode m → fits mode m ≡ true
 unfolding fits register
 in-fits m p =
     rw
-    (lt-ltb _ _ (p .select), lt-ltb _ _ (p .prgmode), lt-ltb _ _ (p .chrmode), eq-eqb _ _ (p .r0), eq-eqb _ _ (p .r1), lt-ltb _ _ (p .r6), lt-ltb _ _ (p .r7), p .line)
+    (lt-ltb _ _ (p .select), lt-ltb _ _ (p .prgmode), lt-ltb _ _ (p .chrmode), eq-eqb _ _ (p .r0), eq-eqb _ _ (p .r1), lt-ltb _ _ (p .r6), lt-ltb _ _ (p .r7), p .line, p .ram)
     refl
 
 kept-even : (s v : ℕ) → s < 2 → dataBits s v % 2 ≡ 0
@@ -75,7 +79,7 @@ kept-six : (s v : ℕ) → 6 ≤ s → dataBits s v < 64
 unfolding dataBits
 kept-six s v h = let g : 2 ≤ s = omega arith in rw (le-ltb s 2 g, le-leb 6 s h) (omega arith)
 
-data-ranged : {mode : Mode} (m : Mmc3) (v : ℕ) → Ranged mode m → Ranged mode (applied (Data v) m)
+data-ranged : {mode : Mode} (m : Mmc3) (v : ℕ) → Ranged mode m → Ranged mode (applied mode (Data v) m)
 unfolding applied
 data-ranged m v p =
     record {
@@ -87,6 +91,7 @@ data-ranged m v p =
       r6 = six 6 (omega arith) (p .r6);
       r7 = six 7 (omega arith) (p .r7);
       line = p .line;
+      ram = p .ram;
     }
   where
     x : ℕ
@@ -114,13 +119,32 @@ with-line : (mode : Mode) (m : Mmc3) (level : Bool) → lineFits mode level ≡ 
 with-line mode m level l e =
     let p = ranged mode m e in
     in-fits (withLine m level)
-    (record { select = p .select; prgmode = p .prgmode; chrmode = p .chrmode; r0 = p .r0; r1 = p .r1; r6 = p .r6; r7 = p .r7; line = l })
+    (record { select = p .select; prgmode = p .prgmode; chrmode = p .chrmode; r0 = p .r0; r1 = p .r1; r6 = p .r6; r7 = p .r7; line = l; ram = p .ram })
 
 -- low in either mode
 pub low-fits : (mode : Mode) → lineFits mode false ≡ true
 unfolding lineFits
 low-fits House = refl
 low-fits Board = refl
+
+-- and RAM by any marks that its mode allows
+with-ram : (mode : Mode) (m : Mmc3) (r : RamMarks) → ramFits mode r ≡ true → fits mode m ≡ true → fits mode (withRam m r) ≡ true
+with-ram mode m r l e =
+    let p = ranged mode m e in
+    in-fits (withRam m r)
+    (record { select = p .select; prgmode = p .prgmode; chrmode = p .chrmode; r0 = p .r0; r1 = p .r1; r6 = p .r6; r7 = p .r7; line = p .line; ram = l })
+
+-- enabled and writable in either mode
+pub start-fits : (mode : Mode) → ramFits mode ramStart ≡ true
+unfolding ramFits ramIsStart
+start-fits House = refl
+start-fits Board = refl
+
+-- and what a write that sets them leaves
+marks-fit : (mode : Mode) (r : RamMarks) (v : ℕ) → ramFits mode r ≡ true → ramFits mode (marksAfter mode r v) ≡ true
+unfolding ramFits marksAfter
+marks-fit House r v l = l
+marks-fit Board r v l = refl
 
 -- and what a clock leaves
 line-fits : (mode : Mode) (line raised : Bool) → lineFits mode line ≡ true → lineFits mode (lineAfter mode line raised) ≡ true
@@ -134,25 +158,26 @@ clocked-fits mode m e =
     let c = clockIn mode (m .irq) in
     with-line mode (withIrq m (c .irq)) (lineAfter mode (m .line) (c .answer)) (line-fits mode (m .line) (c .answer) (ranged mode m e .line)) (with-irq mode m (c .irq) ∙ e)
 
-select-fits : (mode : Mode) (m : Mmc3) (v : ℕ) → fits mode m ≡ true → fits mode (applied (Select v) m) ≡ true
+select-fits : (mode : Mode) (m : Mmc3) (v : ℕ) → fits mode m ≡ true → fits mode (applied mode (Select v) m) ≡ true
 unfolding applied
 select-fits mode m v e =
     let p = ranged mode m e in
-    in-fits (applied (Select v) m)
-    (record { select = omega arith; prgmode = omega arith; chrmode = omega arith; r0 = p .r0; r1 = p .r1; r6 = p .r6; r7 = p .r7; line = p .line })
+    in-fits (applied mode (Select v) m)
+    (record { select = omega arith; prgmode = omega arith; chrmode = omega arith; r0 = p .r0; r1 = p .r1; r6 = p .r6; r7 = p .r7; line = p .line; ram = p .ram })
 
-applied-fits : (mode : Mode) (k : Move) (m : Mmc3) → fits mode m ≡ true → fits mode (applied k m) ≡ true
+applied-fits : (mode : Mode) (k : Move) (m : Mmc3) → fits mode m ≡ true → fits mode (applied mode k m) ≡ true
 unfolding applied
 applied-fits mode Nothing m e = e
 applied-fits mode (Select v) m e = select-fits mode m v e
-applied-fits mode (Data v) m e = in-fits (applied (Data v) m) (data-ranged m v (ranged mode m e))
+applied-fits mode (Data v) m e = in-fits (applied mode (Data v) m) (data-ranged m v (ranged mode m e))
 applied-fits mode (Screens v) m e = e
+applied-fits mode (Protect v) m e = with-ram mode m (marksAfter mode (m .ram) v) (marks-fit mode (m .ram) v (ranged mode m e .ram)) e
 applied-fits mode (Latch v) m e = with-irq mode m _ ∙ e
 applied-fits mode Reload m e = with-irq mode m _ ∙ e
 applied-fits mode Enable m e = with-irq mode m _ ∙ e
 applied-fits mode Disable m e = with-line mode (withIrq m _) false (low-fits mode) (with-irq mode m _ ∙ e)
 
-pub written-fits : (mode : Mode) (m : Mmc3) (v a : ℕ) → fits mode m ≡ true → fits mode (written m v a .mmc3) ≡ true
+pub written-fits : (mode : Mode) (m : Mmc3) (v a : ℕ) → fits mode m ≡ true → fits mode (written mode m v a .mmc3) ≡ true
 unfolding written
 written-fits mode m v a e = applied-fits mode (moveOf v a) m e
 
@@ -167,11 +192,12 @@ asks-headed (Screens v) = either (λ s. isHeaders s ≡ true) (eqb (v % 2) 1) re
 asks-headed Nothing = refl
 asks-headed (Select v) = refl
 asks-headed (Data v) = refl
+asks-headed (Protect v) = refl
 asks-headed (Latch v) = refl
 asks-headed Reload = refl
 asks-headed Enable = refl
 asks-headed Disable = refl
 
-pub written-headed : (m : Mmc3) (v a : ℕ) → headed (written m v a .mirrors) ≡ true
+pub written-headed : (mode : Mode) (m : Mmc3) (v a : ℕ) → headed (written mode m v a .mirrors) ≡ true
 unfolding written
-written-headed m v a = asks-headed (moveOf v a)
+written-headed mode m v a = asks-headed (moveOf v a)

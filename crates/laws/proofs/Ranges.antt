@@ -138,7 +138,7 @@ moved-asks Nrom mode r v a = refl
 moved-asks Uxrom mode r v a = refl
 moved-asks Cnrom mode r v a = refl
 moved-asks Mmc1 mode r v a = any-asked (mmc1-write.written mode (r .mmc1) v a .mirrors)
-moved-asks Mmc3 mode r v a = headers-asked (mmc3-write.written (r .mmc3) v a .mirrors) (mmc3-ranges.written-headed (r .mmc3) v a)
+moved-asks Mmc3 mode r v a = headers-asked (mmc3-write.written mode (r .mmc3) v a .mirrors) (mmc3-ranges.written-headed mode (r .mmc3) v a)
 
 -- screens that a board may ask for fit, whatever the header says
 asked-fits : (k : MapperType) (same headers : Bool) → turnedFit k false headers ≡ true → turnedFit k same headers ≡ true
@@ -258,8 +258,8 @@ could-load s mode p c b e =
 
 -- the start values of every mapper
 start-fits : (k : MapperType) (mode : Mode) → fits k mode (start k) ≡ true
-unfolding start mmc1Start partFits mmc1.isUnused mmc1.fits mmc1.serialFits mmc1.regsFits mmc3.start mmc3.isStart mmc3.irqIsStart mmc3.fits mmc3-read.register
-start-fits k mode = whole k mode (start k) (holds (isMapper k Uxrom) refl refl, holds (isMapper k Cnrom) refl refl, of-mmc1 (isMapper k Mmc1), holds (isMapper k Mmc3) (mmc3-ranges.low-fits mode) refl)
+unfolding start mmc1Start partFits mmc1.isUnused mmc1.fits mmc1.serialFits mmc1.regsFits mmc3.start mmc3.isStart mmc3.irqIsStart mmc3.ramIsStart mmc3.fits mmc3-read.register
+start-fits k mode = whole k mode (start k) (holds (isMapper k Uxrom) refl refl, holds (isMapper k Cnrom) refl refl, of-mmc1 (isMapper k Mmc1), holds (isMapper k Mmc3) (join (mmc3-ranges.low-fits mode) (mmc3-ranges.start-fits mode)) refl)
   where
     holds : (t : Bool) {x y : Bool} → x ≡ true → y ≡ true → cond t x y ≡ true
     holds t e f = either (λ (z : Bool). z ≡ true) t e f

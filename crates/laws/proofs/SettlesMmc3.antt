@@ -3,26 +3,29 @@
 -- Assumes nothing.
 use Prim.Native.Nat.{ℕ}
 use mathlib.Core.Path.{_≡_, refl, sym, ap, ap₂, _∙_, subst}
-use mathlib.Core.Bool.{Bool, true, false, cond, _&&_}
+use mathlib.Core.Bool.{Bool, true, false, cond, not, _&&_}
 use mathlib.Core.List.{List, [], _∷_, map}
-use lib.Dec.{leb}
+use lib.Dec.{ltb, leb}
+use Rattle.rules.proofs.Bools.{either}
 use Rattle.common.specs.declared.Mode.{Mode}
 use Rattle.common.specs.declared.Mode.the-variants.{House, Board as OnBoard}
 use Rattle.common.specs.declared.Refusal.the-variants.{IrqPending}
 use Rattle.cartridge.specs.declared.Cartridge.{Cartridge}
 use Rattle.cartridge.specs.declared.MapperType.{MapperType}
 use Rattle.cartridge.specs.declared.MapperType.the-variants.{Mmc3}
-use Rattle.places.specs.Windows.{prgRamOf, inWindows, landsIn}
+use Rattle.places.specs.Windows.{Window, prgRamOf, inWindows, landsIn}
 use Rattle.places.specs.Windows.Window.{Empty, Refused}
 use Rattle.places.specs.declared.Landing.{Landing}
+use Rattle.mmc3.specs.Ram.{ramWritten}
 use Rattle.mmc3.specs.Clock as mmc3-clock
 use Rattle.mmc3.specs.Read as mmc3
 use Rattle.mmc3.specs.Write.{isEven, moveOf, applied}
 use Rattle.mmc3.specs.declared.Irq.{Irq}
+use Rattle.mmc3.specs.declared.RamMarks.{RamMarks}
 use Rattle.mmc3.specs.declared.Clocked.{Clocked}
 use Rattle.mmc3.specs.declared.Mmc3 as mmc3-type
 use Rattle.mmc3.specs.declared.Move.{Move}
-use Rattle.mmc3.specs.declared.Move.the-variants.{Nothing, Select, Data, Screens, Latch, Reload, Enable, Disable}
+use Rattle.mmc3.specs.declared.Move.the-variants.{Nothing, Select, Data, Screens, Protect, Latch, Reload, Enable, Disable}
 use Rattle.boards.specs.Range.{inRange}
 use Rattle.boards.specs.Write.{writeWindowOn, writeLanding, acceptedWrite, landing}
 use Rattle.boards.specs.Clock.{yesNo, clock}
@@ -49,16 +52,17 @@ abbrev signal : mmc3-type.Mmc3 → Signal
 signal m = (m .irq, m .line)
 
 -- a move leaves the same of the same
-one-signal : (k : Move) (m n : mmc3-type.Mmc3) → signal m ≡ signal n → signal (applied k m) ≡ signal (applied k n)
+one-signal : (x y : Mode) (k : Move) (m n : mmc3-type.Mmc3) → signal m ≡ signal n → signal (applied x k m) ≡ signal (applied y k n)
 unfolding applied mmc3-clock.withIrq
-one-signal Nothing m n e = e
-one-signal (Select v) m n e = e
-one-signal (Data v) m n e = e
-one-signal (Screens v) m n e = e
-one-signal (Latch v) m n e = λ i. (record { enabled = e i .0 .enabled; latch = v; counter = e i .0 .counter; reload = e i .0 .reload }, e i .1)
-one-signal Reload m n e = λ i. (record { enabled = e i .0 .enabled; latch = e i .0 .latch; counter = e i .0 .counter; reload = true }, e i .1)
-one-signal Enable m n e = λ i. (record { enabled = true; latch = e i .0 .latch; counter = e i .0 .counter; reload = e i .0 .reload }, e i .1)
-one-signal Disable m n e = λ i. (record { enabled = false; latch = e i .0 .latch; counter = e i .0 .counter; reload = e i .0 .reload }, false)
+one-signal x y Nothing m n e = e
+one-signal x y (Select v) m n e = e
+one-signal x y (Data v) m n e = e
+one-signal x y (Screens v) m n e = e
+one-signal x y (Protect v) m n e = e
+one-signal x y (Latch v) m n e = λ i. (record { enabled = e i .0 .enabled; latch = v; counter = e i .0 .counter; reload = e i .0 .reload }, e i .1)
+one-signal x y Reload m n e = λ i. (record { enabled = e i .0 .enabled; latch = e i .0 .latch; counter = e i .0 .counter; reload = true }, e i .1)
+one-signal x y Enable m n e = λ i. (record { enabled = true; latch = e i .0 .latch; counter = e i .0 .counter; reload = e i .0 .reload }, e i .1)
+one-signal x y Disable m n e = λ i. (record { enabled = false; latch = e i .0 .latch; counter = e i .0 .counter; reload = e i .0 .reload }, false)
 
 -- what a clock whose unit did this leaves of them, and answers
 abbrev left : Mode → Bool → Clocked → Signal
@@ -92,14 +96,25 @@ module _ {b d : Board} (r : Alike b d) (a : ℕ) where
   lands-there mode e h f =
       ap (λ (k : MapperType). landsIn (e .cart) (writeWindowOn k (e .registers) (e .cart) a) a) h ∙ ap (λ (m : Mode). lands m e) f
 
+  -- no marks of RAM refuse a write
+  marks-accept : (c : Cartridge) (r : RamMarks) (rom : Window) → isAccepted (landsIn c (inWindows Empty (ramWritten r c) rom a) a) ≡ isAccepted (landsIn c (inWindows Empty Empty rom a) a)
+  unfolding inWindows ramWritten prgRamOf landsIn isAccepted
+  marks-accept c r rom =
+      let Same : Window → Window → Type 0 = λ w v. isAccepted (landsIn c w a) ≡ isAccepted (landsIn c v a) in
+      let Open : Window → Type 0 = λ w. Same w Empty in
+      alike Same (ltb a 0x2000) refl
+      (alike Same (ltb a 0x6000) refl
+      (alike Same (ltb a 0x8000) (either Open (r .enabled && not (r .denied)) (either Open (c .prgram) refl refl) refl) refl))
+
   -- in house mode that is the unit's matter, and the cartridge's
   landing-alike : (mode : Mode) → b .cart .mode ≡ mode → isAccepted (writeLanding b a) ≡ isAccepted (writeLanding d a)
   unfolding mmc3.writeWindowIn mmc3.ppuWriteIn mmc3.romWriteIn mmc3.acknowledged
   landing-alike House e =
-      ap isAccepted
-      (lands-there House b (r .one .mapper) e
-      ∙ ap₂ (λ (c : Cartridge) (i : Irq). landsIn c (inWindows Empty (prgRamOf c) (cond (mmc3-clock.isPending i && leb 0xE000 a && isEven a) (Refused IrqPending) Empty) a) a) (r .one .cart) (ap (λ (s : Signal). s .0) (r .same))
-      ∙ sym (lands-there House d (swapped (r .one) .mapper) (ap (λ (c : Cartridge). c .mode) (sym (r .one .cart)) ∙ e)))
+      ap isAccepted (lands-there House b (r .one .mapper) e)
+      ∙ marks-accept (b .cart) (b .registers .mmc3 .ram) _
+      ∙ ap₂ (λ (c : Cartridge) (i : Irq). isAccepted (landsIn c (inWindows Empty Empty (cond (mmc3-clock.isPending i && leb 0xE000 a && isEven a) (Refused IrqPending) Empty) a) a)) (r .one .cart) (ap (λ (s : Signal). s .0) (r .same))
+      ∙ sym (marks-accept (d .cart) (d .registers .mmc3 .ram) _)
+      ∙ sym (ap isAccepted (lands-there House d (swapped (r .one) .mapper) (ap (λ (c : Cartridge). c .mode) (sym (r .one .cart)) ∙ e)))
   landing-alike OnBoard e = board-alike (r .one) e a
 
   both-accept : (l : Lent) → accepts b l a ≡ accepts d l a
@@ -122,7 +137,7 @@ next-signal {b} {d} r l (Write a v) =
     ∙ subst (λ (t : Bool). signalOf (cond (accepts b l a) (acceptedWrite b v a .board) b) ≡ signalOf (cond t (acceptedWrite d v a .board) d)) (both-accept r a l)
     (alike (λ (x y : Board). signalOf x ≡ signalOf y) (accepts b l a)
     (ap signal (moved-mmc3 b (r .one .mapper) v a)
-    ∙ one-signal (moveOf v a) (b .registers .mmc3) (d .registers .mmc3) (r .same)
+    ∙ one-signal (b .cart .mode) (d .cart .mode) (moveOf v a) (b .registers .mmc3) (d .registers .mmc3) (r .same)
     ∙ sym (ap signal (moved-mmc3 d (swapped (r .one) .mapper) v a)))
     (r .same))
     ∙ sym (ap signalOf (after-write d (landing d (l .image) (l .prg) (l .chr) a) v a))

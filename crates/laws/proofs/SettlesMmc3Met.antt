@@ -75,13 +75,17 @@ unfolding opened
 met-unit House = refl
 met-unit OnBoard = refl
 
--- in board mode another game stands with its line up
+-- in board mode another game stands with its line up and its RAM locked
 abbrev pub risen : (mode : Mode) → History mode mmc3-image
-risen mode = history mode (callsOf mmc3-image (Write 0xC000 0 ∷ Write 0xC001 0 ∷ Write 0xE001 0 ∷ Clock ∷ Write 0xC000 9 ∷ []))
+risen mode = history mode (callsOf mmc3-image (Write 0xC000 0 ∷ Write 0xC001 0 ∷ Write 0xE001 0 ∷ Write 0xA001 0x40 ∷ Clock ∷ Write 0xC000 9 ∷ []))
 
 pub met-line : lineUp (reached (risen OnBoard)) ≡ true
 unfolding opened
 met-line = refl
+
+pub met-lock : reached (risen OnBoard) .registers .mmc3 .ram ≡ record { enabled = false; denied = true }
+unfolding opened
+met-lock = refl
 
 abbrev pub acknowledging : Lent → LentWrite
 acknowledging l = record { lent = l; address = 0xE000; byte = 0 }

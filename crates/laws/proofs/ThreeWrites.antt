@@ -15,7 +15,7 @@ use Rattle.mmc3.specs.Write.{applied}
 use Rattle.mmc3.specs.declared.Irq.{Irq}
 use Rattle.mmc3.specs.declared.Mmc3 as mmc3-type
 use Rattle.mmc3.specs.declared.Move.{Move}
-use Rattle.mmc3.specs.declared.Move.the-variants.{Nothing, Select, Data, Screens, Latch, Reload, Enable, Disable}
+use Rattle.mmc3.specs.declared.Move.the-variants.{Nothing, Select, Data, Screens, Protect, Latch, Reload, Enable, Disable}
 use Rattle.boards.specs.Runs.{lent, Call, call, after}
 use Rattle.boards.specs.declared.Board.{Board}
 use Rattle.boards.specs.declared.Event.the-variants.{Write, Clock}
@@ -31,8 +31,8 @@ use Rattle.laws.proofs.Opened.{opened}
 use Rattle.laws.proofs.PublicClocks.{house-rule, board-rule, board-raises}
 
 -- five deeds touch the unit: what each of them keeps, every deed keeps
-by-deed : (P : Irq → Type 0) (mode : Mode) (d : Deed) (m : mmc3-type.Mmc3) → P (m .irq) → ((v : ℕ) → d ≡ writes (Latch v) → P (applied (Latch v) m .irq))
-    → (d ≡ writes Reload → P (applied Reload m .irq)) → (d ≡ writes Enable → P (applied Enable m .irq)) → (d ≡ writes Disable → P (applied Disable m .irq))
+by-deed : (P : Irq → Type 0) (mode : Mode) (d : Deed) (m : mmc3-type.Mmc3) → P (m .irq) → ((v : ℕ) → d ≡ writes (Latch v) → P (applied mode (Latch v) m .irq))
+    → (d ≡ writes Reload → P (applied mode Reload m .irq)) → (d ≡ writes Enable → P (applied mode Enable m .irq)) → (d ≡ writes Disable → P (applied mode Disable m .irq))
     → (d ≡ clocks → P (clockIn mode (m .irq) .irq)) → P (mmc3After mode d m .irq)
 unfolding applied clocked withIrq
 by-deed P mode rests m h latch reload enable disable clock = h
@@ -40,6 +40,7 @@ by-deed P mode (writes Nothing) m h latch reload enable disable clock = h
 by-deed P mode (writes (Select v)) m h latch reload enable disable clock = h
 by-deed P mode (writes (Data v)) m h latch reload enable disable clock = h
 by-deed P mode (writes (Screens v)) m h latch reload enable disable clock = h
+by-deed P mode (writes (Protect v)) m h latch reload enable disable clock = h
 by-deed P mode (writes (Latch v)) m h latch reload enable disable clock = latch v refl
 by-deed P mode (writes Reload) m h latch reload enable disable clock = reload refl
 by-deed P mode (writes Enable) m h latch reload enable disable clock = enable refl

@@ -1,8 +1,8 @@
 -- For a board in range every place of a read or a write lies inside what it names, since a bank that ends past its data is refused.
--- In board mode none is refused, by the modulo rule, and a byte is stored where it would be read, if that is RAM. Assumes nothing.
+-- In board mode none is refused, by the modulo rule, and a byte is stored where it would be read, if that is RAM and not denied. Assumes nothing.
 use Prim.Native.Nat.{ℕ, _+_, _-_, _*_, _/_, _%_, _≤_, _<_}
 use mathlib.Core.Path.{_≡_, refl, sym, _∙_, subst⁻¹}
-use mathlib.Core.Bool.{Bool, true, false, cond, _&&_, _||_}
+use mathlib.Core.Bool.{Bool, true, false, cond, not, _&&_, _||_}
 use native.Mathlib.Omega.{arith}
 use lib.Dec.{ltb, leb, eqb}
 use borrow.Author.Tests.{leb-true, eqb-false}
@@ -15,7 +15,7 @@ use Rattle.banks.specs.declared.Start.{Start}
 use Rattle.banks.specs.declared.Start.the-variants.{At, PastEnd}
 use Rattle.banks.proofs.Range.{modulo-rule}
 use Rattle.cartridge.specs.Load.{badPrg, couldLoad, prgTotal, chrTotal, hasChrRam, lastPrg}
-use Rattle.cartridge.specs.Mappers.{mapperNumber}
+use Rattle.cartridge.specs.Mappers.{mapperNumber, isMapper}
 use Rattle.cartridge.specs.declared.Cartridge.{Cartridge}
 use Rattle.cartridge.specs.declared.MapperType.{MapperType}
 use Rattle.cartridge.specs.declared.MapperType.the-variants.{Nrom, Mmc1, Uxrom, Cnrom, Mmc3}
@@ -33,14 +33,16 @@ use Rattle.nrom.specs.Nrom as nrom
 use Rattle.uxrom.specs.Uxrom as uxrom
 use Rattle.cnrom.specs.Cnrom as cnrom
 use Rattle.mmc1.specs.Read as mmc1
+use Rattle.mmc3.specs.Ram.{ramStart, ramRead, ramWritten}
 use Rattle.mmc3.specs.Read as mmc3
+use Rattle.mmc3.specs.declared.RamMarks.{RamMarks}
 use Rattle.boards.specs.Registers.{fits}
 use Rattle.boards.specs.Range.{mirroringFits, inRange}
 use Rattle.boards.specs.Read.{readWindowOn, readLanding}
 use Rattle.boards.specs.Write.{writeWindowOn, writeLanding}
 use Rattle.boards.specs.declared.Board.{Board}
 use Rattle.boards.specs.declared.Registers.{Registers}
-use Rattle.laws.specs.Within.{Lies, ramAt, Found}
+use Rattle.laws.specs.Within.{Lies, writesDenied, ramAt, Found}
 use Rattle.laws.proofs.Cases.{by-test, alike}
 
 -- what the range of a board says of its cartridge: some PRG, and room for all blocks
@@ -162,41 +164,45 @@ module _ (c : Cartridge) (r : Roomy c) (e : c .mode ≡ OnBoard) where
   unfolding fixedPrg
   fixed-opens a = either Opens (ltb a 0x8000) tt tt
 
-  windows-open : (ppu rom : Window) (a : ℕ) → Opens ppu → Opens rom → Opens (inWindows ppu (prgRamOf c) rom a)
-  unfolding inWindows prgRamOf
-  windows-open ppu rom a p q = either Opens (ltb a 0x2000) p (either Opens (ltb a 0x6000) tt (either Opens (ltb a 0x8000) (either Opens (c .prgram) tt tt) q))
+  -- of both boards with PRG RAM: MMC1 shows it as MMC3 does at its start
+  windows-open : (r : RamMarks) (ppu rom : Window) (a : ℕ) → Opens ppu → Opens rom → Opens (inWindows ppu (ramRead r c) rom a)
+  unfolding inWindows ramRead prgRamOf
+  windows-open r ppu rom a p q =
+      either Opens (ltb a 0x2000) p
+      (either Opens (ltb a 0x6000) tt
+      (either Opens (ltb a 0x8000) (either Opens (r .enabled) (either Opens (c .prgram) tt tt) tt) q))
 
   reads-open : (k : MapperType) (x : Registers) (a : ℕ) → Opens (readWindowOn k x c a)
-  unfolding readWindowOn nrom.readWindow uxrom.readWindow cnrom.readWindowIn cnrom.boardReadWindow mmc1.readWindow mmc3.readWindow
+  unfolding readWindowOn nrom.readWindow uxrom.readWindow cnrom.readWindowIn cnrom.boardReadWindow mmc1.readWindow mmc3.readWindow ramRead
   reads-open Nrom x a = either Opens (ltb a 0x2000) tt (fixed-opens a)
-  reads-open Mmc1 x a = windows-open _ _ a tt tt
+  reads-open Mmc1 x a = windows-open ramStart _ _ a tt tt
   reads-open Uxrom x a = either Opens (ltb a 0x2000) tt (either Opens (ltb a 0x8000) tt (either Opens (ltb a 0xC000) tt tt))
   reads-open Cnrom x a =
       subst⁻¹ (λ (m : Mode). Opens (cnrom.readWindowIn m (x .cnrom) c a)) e (either Opens (ltb a 0x2000) tt (fixed-opens a))
-  reads-open Mmc3 x a = windows-open _ _ a tt tt
+  reads-open Mmc3 x a = windows-open (x .mmc3 .ram) _ _ a tt tt
 
-  module _ (a : ℕ) where
-    -- a byte that is written to one window goes where the other is read, if that is RAM
+  module _ (a : ℕ) (denied : Bool) where
+    -- a byte that is written to one window goes where the other is read, if that is RAM, and PRG RAM not denied
     abbrev Stores : Window → Window → Type 0
-    Stores w v = landsIn c w a ≡ ramAt (landsIn c v a)
+    Stores w v = landsIn c w a ≡ ramAt denied (landsIn c v a)
 
-    no-rom : (s : Start) (i : ℕ) → Found (prgAt s i) → InPlace Nowhere ≡ ramAt (prgAt s i)
+    no-rom : (s : Start) (i : ℕ) → Found (prgAt s i) → InPlace Nowhere ≡ ramAt denied (prgAt s i)
     unfolding prgAt
     no-rom (At s) i f = refl
     no-rom PastEnd i f = absurd f
 
-    if-ram : (ram : Bool) (s : Start) (i : ℕ) → Found (chrAt ram s i) → cond ram (chrAt ram s i) (InPlace Nowhere) ≡ ramAt (chrAt ram s i)
+    if-ram : (ram : Bool) (s : Start) (i : ℕ) → Found (chrAt ram s i) → cond ram (chrAt ram s i) (InPlace Nowhere) ≡ ramAt denied (chrAt ram s i)
     unfolding chrAt
     if-ram true (At s) i f = refl
     if-ram false (At s) i f = refl
     if-ram true PastEnd i f = absurd f
     if-ram false PastEnd i f = absurd f
 
-    prg-ignores : (size n : ℕ) → 0 < size → size ≤ KB16 → InPlace Nowhere ≡ ramAt (inPrg c size n (a % size))
+    prg-ignores : (size n : ℕ) → 0 < size → size ≤ KB16 → InPlace Nowhere ≡ ramAt denied (inPrg c size n (a % size))
     unfolding inPrg
     prg-ignores size n p h = no-rom (bankStart (c .mode) n size (prgTotal c)) (a % size) (prg-found size n (a % size) p h)
 
-    chr-stores : (size n : ℕ) → 0 < size → size ≤ KB8 → ifChrRam c (inChr c size n (a % size)) ≡ ramAt (inChr c size n (a % size))
+    chr-stores : (size n : ℕ) → 0 < size → size ≤ KB8 → ifChrRam c (inChr c size n (a % size)) ≡ ramAt denied (inChr c size n (a % size))
     unfolding ifChrRam inChr
     chr-stores size n p h = if-ram (hasChrRam c) (bankStart (c .mode) n size (chrTotal c)) (a % size) (chr-found size n (a % size) p h)
 
@@ -224,52 +230,63 @@ module _ (c : Cartridge) (r : Roomy c) (e : c .mode ≡ OnBoard) where
     unfolding landsIn
     no-window = refl
 
-    prg-ram : Stores (prgRamOf c) (prgRamOf c)
-    unfolding prgRamOf landsIn
-    prg-ram = alike Stores (c .prgram) refl no-window
+    prg-ram : (r : RamMarks) → r .denied ≡ denied → Stores (ramWritten r c) (ramRead r c)
+    unfolding ramWritten ramRead prgRamOf landsIn
+    prg-ram r e = go (r .enabled) (r .denied) (c .prgram) e
+      where
+        shows : Bool → Window
+        shows ram = cond ram PrgRam Empty
+
+        go : (enabled d ram : Bool) → d ≡ denied → Stores (cond (enabled && not d) (shows ram) Empty) (cond enabled (shows ram) Empty)
+        go true true true e = rw (sym e) refl
+        go true false true e = rw (sym e) refl
+        go true true false e = refl
+        go true false false e = refl
+        go false d ram e = refl
 
     fixed : Stores Empty (fixedPrg c a)
     unfolding fixedPrg
     fixed = either (Stores Empty) (ltb a 0x8000) no-window (rom-16K (fixedBlock c a))
 
-    windows-store : (w v r : Window) → Stores w v → Stores Empty r → Stores (inWindows w (prgRamOf c) Empty a) (inWindows v (prgRamOf c) r a)
+    windows-store : (r : RamMarks) → r .denied ≡ denied → (w v rom : Window) → Stores w v → Stores Empty rom
+        → Stores (inWindows w (ramWritten r c) Empty a) (inWindows v (ramRead r c) rom a)
     unfolding inWindows
-    windows-store w v r p q = alike Stores (ltb a 0x2000) p (alike Stores (ltb a 0x6000) no-window (alike Stores (ltb a 0x8000) prg-ram q))
+    windows-store r e w v rom p q = alike Stores (ltb a 0x2000) p (alike Stores (ltb a 0x6000) no-window (alike Stores (ltb a 0x8000) (prg-ram r e) q))
 
-    stored-where-read : (k : MapperType) (x : Registers) → Stores (writeWindowOn k x c a) (readWindowOn k x c a)
-    unfolding writeWindowOn readWindowOn boardChrRam nrom.readWindow nrom.writeWindowIn uxrom.readWindow uxrom.writeWindowIn cnrom.writeWindowIn cnrom.readWindowIn cnrom.boardReadWindow mmc1.writeWindowIn mmc1.ppuWriteIn mmc1.readWindow mmc3.writeWindowIn mmc3.ppuWriteIn mmc3.romWriteIn mmc3.readWindow
-    stored-where-read Nrom x = subst⁻¹ (λ (m : Mode). Stores (nrom.writeWindowIn m c a) (nrom.readWindow c a)) e (alike Stores (ltb a 0x2000) (chr-8K 0) fixed)
-    stored-where-read Mmc1 x =
+    stored-where-read : (k : MapperType) (x : Registers) → writesDenied k x ≡ denied → Stores (writeWindowOn k x c a) (readWindowOn k x c a)
+    unfolding writeWindowOn readWindowOn isMapper ramRead ramWritten boardChrRam nrom.readWindow nrom.writeWindowIn uxrom.readWindow uxrom.writeWindowIn cnrom.writeWindowIn cnrom.readWindowIn cnrom.boardReadWindow mmc1.writeWindowIn mmc1.ppuWriteIn mmc1.readWindow mmc3.writeWindowIn mmc3.ppuWriteIn mmc3.romWriteIn mmc3.readWindow
+    stored-where-read Nrom x d = subst⁻¹ (λ (m : Mode). Stores (nrom.writeWindowIn m c a) (nrom.readWindow c a)) e (alike Stores (ltb a 0x2000) (chr-8K 0) fixed)
+    stored-where-read Mmc1 x d =
         subst⁻¹ (λ (m : Mode). Stores (mmc1.writeWindowIn m (x .mmc1) c a) (mmc1.readWindow (x .mmc1) c a)) e
-        (windows-store _ _ _ (chr-4K (mmc1.chrBank (x .mmc1) c a)) (rom-16K (mmc1.prgBank (x .mmc1) c a)))
-    stored-where-read Uxrom x =
+        (windows-store ramStart d _ _ _ (chr-4K (mmc1.chrBank (x .mmc1) c a)) (rom-16K (mmc1.prgBank (x .mmc1) c a)))
+    stored-where-read Uxrom x d =
         subst⁻¹ (λ (m : Mode). Stores (uxrom.writeWindowIn m (x .uxrom) c a) (uxrom.readWindow (x .uxrom) c a)) e
         (alike Stores (ltb a 0x2000) (chr-8K 0) (either (Stores Empty) (ltb a 0x8000) no-window (either (Stores Empty) (ltb a 0xC000) (rom-16K (x .uxrom .bank)) (rom-16K (lastPrg c)))))
-    stored-where-read Cnrom x =
+    stored-where-read Cnrom x d =
         subst⁻¹ (λ (m : Mode). Stores (cnrom.writeWindowIn m (x .cnrom) c a) (cnrom.readWindowIn m (x .cnrom) c a)) e
         (alike Stores (ltb a 0x2000) (chr-8K (x .cnrom .bank)) fixed)
-    stored-where-read Mmc3 x =
+    stored-where-read Mmc3 x d =
         subst⁻¹ (λ (m : Mode). Stores (mmc3.writeWindowIn m (x .mmc3) c a) (mmc3.readWindow (x .mmc3) c a)) e
-        (windows-store _ _ _ (chr-1K (mmc3.chrBank (x .mmc3) (a / 1024))) (rom-8K (mmc3.prgBank (x .mmc3) c a)))
+        (windows-store (x .mmc3 .ram) d _ _ _ (chr-1K (mmc3.chrBank (x .mmc3) (a / 1024))) (rom-8K (mmc3.prgBank (x .mmc3) c a)))
 
 -- no refusal comes of leaving ROM out
-still-found : (l : Landing) → Found l → Found (ramAt l)
-still-found (InPlace (place.Prg i)) f = tt
-still-found (InPlace (place.Chr i)) f = tt
-still-found (InPlace (place.PrgRam i)) f = tt
-still-found (InPlace (place.ChrRam i)) f = tt
-still-found (InPlace Nowhere) f = tt
-still-found (NotLanded why) f = absurd f
+still-found : (denied : Bool) (l : Landing) → Found l → Found (ramAt denied l)
+still-found denied (InPlace (place.Prg i)) f = tt
+still-found denied (InPlace (place.Chr i)) f = tt
+still-found denied (InPlace (place.PrgRam i)) f = either Found denied tt tt
+still-found denied (InPlace (place.ChrRam i)) f = tt
+still-found denied (InPlace Nowhere) f = tt
+still-found denied (NotLanded why) f = absurd f
 
 module _ (b : Board) (e : b .cart .mode ≡ OnBoard) (ok : inRange b ≡ true) (a : ℕ) where
   pub board-reads : Found (readLanding b a)
   unfolding readLanding
   board-reads = found-in (b .cart) (roomy b ok) e _ (reads-open (b .cart) (roomy b ok) e (b .cart .mapper) (b .registers) a) a
 
-  -- "CHR RAM is read and written through the banks, on all boards; CHR ROM ignores writes": a byte is stored where it would be read, if that is RAM
-  pub board-stores-where-it-reads : writeLanding b a ≡ ramAt (readLanding b a)
+  -- "CHR RAM is read and written through the banks, on all boards; CHR ROM ignores writes": a byte is stored where it would be read, if that is RAM, and PRG RAM not denied
+  pub board-stores-where-it-reads : writeLanding b a ≡ ramAt (writesDenied (b .cart .mapper) (b .registers)) (readLanding b a)
   unfolding writeLanding readLanding
-  board-stores-where-it-reads = stored-where-read (b .cart) (roomy b ok) e a (b .cart .mapper) (b .registers)
+  board-stores-where-it-reads = stored-where-read (b .cart) (roomy b ok) e a (writesDenied (b .cart .mapper) (b .registers)) (b .cart .mapper) (b .registers) refl
 
   pub board-writes : Found (writeLanding b a)
-  board-writes = subst⁻¹ Found board-stores-where-it-reads (still-found (readLanding b a) board-reads)
+  board-writes = subst⁻¹ Found board-stores-where-it-reads (still-found (writesDenied (b .cart .mapper) (b .registers)) (readLanding b a) board-reads)

@@ -5,6 +5,8 @@ pub mod Numbers
 pub mod FurtherRows
 pub mod Nes2Rows
 pub mod LineRows
+pub mod ProtectionRows
+pub mod Protection
 pub mod Loadable
 pub mod Clocks
 pub mod Deeds

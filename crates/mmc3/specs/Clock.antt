@@ -33,13 +33,13 @@ unfoldable pub clockIn : Mode → Irq → Clocked
 clockIn House i = houseClock i
 clockIn Board i = boardClock i
 
--- a board with another interrupt unit, its line as it was
+-- a board with another interrupt unit, its line and its marks as they were
 unfoldable pub withIrq : Mmc3 → Irq → Mmc3
-withIrq m i = record { select = m .select; prgmode = m .prgmode; chrmode = m .chrmode; regs = m .regs; irq = i; line = m .line }
+withIrq m i = record { select = m .select; prgmode = m .prgmode; chrmode = m .chrmode; regs = m .regs; irq = i; line = m .line; ram = m .ram }
 
 -- a board with its line at another level
 abbrev pub withLine : Mmc3 → Bool → Mmc3
-withLine m level = record { select = m .select; prgmode = m .prgmode; chrmode = m .chrmode; regs = m .regs; irq = m .irq; line = level }
+withLine m level = record { select = m .select; prgmode = m .prgmode; chrmode = m .chrmode; regs = m .regs; irq = m .irq; line = level; ram = m .ram }
 
 -- the line after a clock whose unit raised it or did not; house: as it was, "always low in house mode"; board, M-101: "the line, once raised, stays raised"
 unfoldable pub lineAfter : Mode → Bool → Bool → Bool

@@ -1,3 +1,4 @@
+pub mod Ram
 pub mod Clock
 pub mod Write
 pub mod Read

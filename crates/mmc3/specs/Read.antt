@@ -8,9 +8,10 @@ use Rattle.common.specs.Answers.{no}
 use Rattle.common.specs.declared.Mode.{Mode}
 use Rattle.common.specs.declared.Mode.the-variants.{House, Board}
 use Rattle.cartridge.specs.declared.Cartridge.{Cartridge}
-use Rattle.places.specs.Windows.{Window, prgRamOf, inWindows, boardChr}
+use Rattle.places.specs.Windows.{Window, inWindows, boardChr}
 use Rattle.places.specs.Windows.Window.{Prg8K, Chr1K, Empty, Refused}
 use Rattle.mmc3.specs.Clock.{isPending}
+use Rattle.mmc3.specs.Ram.{ramRead, ramWritten}
 use Rattle.mmc3.specs.Write.{isEven}
 use Rattle.mmc3.specs.declared.Mmc3.{Mmc3}
 
@@ -61,7 +62,7 @@ prgBank m c a =
 
 -- what a read finds: of CHR a slot of 1 KB, of PRG a window of 8 KB
 unfoldable pub readWindow : Mmc3 → Cartridge → ℕ → Window
-readWindow m c a = inWindows (Chr1K (chrBank m (a / 1024))) (prgRamOf c) (Prg8K (prgBank m c a)) a
+readWindow m c a = inWindows (Chr1K (chrBank m (a / 1024))) (ramRead (m .ram) c) (Prg8K (prgBank m c a)) a
 
 -- refusal 14: "even address in E000-FFFF, IRQ enabled, counter 0 or 1"
 unfoldable pub acknowledged : Mmc3 → ℕ → Window
@@ -79,7 +80,7 @@ romWriteIn Board m a = Empty
 
 -- what a write finds in each mode
 unfoldable pub writeWindowIn : Mode → Mmc3 → Cartridge → ℕ → Window
-writeWindowIn mode m c a = inWindows (ppuWriteIn mode m c a) (prgRamOf c) (romWriteIn mode m a) a
+writeWindowIn mode m c a = inWindows (ppuWriteIn mode m c a) (ramWritten (m .ram) c) (romWriteIn mode m a) a
 
 -- what a write finds, in the mode that the cartridge has
 abbrev pub writeWindow : Mmc3 → Cartridge → ℕ → Window

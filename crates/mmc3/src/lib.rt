@@ -1,13 +1,15 @@
-// MMC3: eight bank registers, a counter that asks for an interrupt, and board mode's line. Ported from potatis nes/src/mappers/mmc3.rs.
+// MMC3: eight bank registers, a counter that asks for an interrupt, and board mode's line and locks of RAM. Ported from potatis
+// nes/src/mappers/mmc3.rs.
 ghost use mathlib.Core.Path.{_≡_};
 ghost use Prim.Native.Nat.{_/_};
 ghost use Rattle.places.specs.Windows.{landsIn, boardChr};
 ghost use Rattle.places.specs.Windows.Window.{Chr1K, Prg8K};
+ghost use Rattle.mmc3.specs.Ram.{marksAfter, ramRead, ramWritten};
 ghost use Rattle.mmc3.specs.Clock.{at, houseClock, nextCounter, boardClock, clockIn, lineAfter, clockAnswer, clocked, isPending};
 ghost use Rattle.mmc3.specs.Write.{moveOf, dataBits, applied, screens, mirrorsOf, written};
 ghost use Rattle.mmc3.specs.Read.{register, chrBank, lastBank, lastButOne, prgBank, readWindow, acknowledged, writeWindow};
 ghost use Rattle.mmc3.specs.Steps.{choice};
-ghost use Rattle.mmc3.specs.Range.{start, irqIsStart, isStart, lineFits, fits};
+ghost use Rattle.mmc3.specs.Range.{start, irqIsStart, ramIsStart, isStart, lineFits, ramFits, fits};
 use banks::Bank1K;
 use banks::Bank8K;
 use cartridge::Cartridge;
@@ -26,6 +28,13 @@ pub struct Irq {
     pub reload: bool,
 }
 
+// What the real board lets a program do with PRG RAM. In house mode it is always enabled and writable.
+pub struct RamMarks {
+    pub enabled: bool,
+    // Writes are denied.
+    pub denied: bool,
+}
+
 pub struct Mmc3 {
     // The register that a data write goes to.
     pub select: u8,
@@ -35,6 +44,7 @@ pub struct Mmc3 {
     pub irq: Irq,
     // The real board's interrupt line, which its unit raises. In house mode it is always low.
     pub line: bool,
+    pub ram: RamMarks,
 }
 
 // The unit after a clock, and whether it raises the line; in house mode, whether an interrupt comes.
@@ -55,6 +65,7 @@ pub enum Move {
     Select(u8),
     Data(u8),
     Screens(u8),
+    Protect(u8),
     Latch(u8),
     Reload,
     Enable,
@@ -169,6 +180,56 @@ fn line_fits(mode: Mode, line: bool) -> bool
     }
 }
 
+impl RamMarks {
+    fn is_start(self) -> bool
+        ensures { λ r. ⌜ r ≡ ramIsStart self ⌝ }
+    {
+        self.enabled & !self.denied
+    }
+
+    fn fits(self, mode: Mode) -> bool
+        ensures { λ r. ⌜ r ≡ ramFits mode self ⌝ }
+    {
+        match mode {
+            Mode::House => self.is_start(),
+            Mode::Board => true,
+        }
+    }
+
+    // The Rust leaves protection out.
+    fn after(self, mode: Mode, value: u8) -> RamMarks
+        ensures { λ r. ⌜ r ≡ marksAfter mode self value ⌝ }
+    {
+        match mode {
+            Mode::House => self,
+            Mode::Board => RamMarks {
+                enabled: value / 128 % 2 == 1,
+                denied: value / 64 % 2 == 1,
+            },
+        }
+    }
+
+    fn read_landing(self, cart: Cartridge, address: u16) -> Landing
+        ensures { λ r. ⌜ r ≡ landsIn cart (ramRead self cart) address ⌝ }
+    {
+        if self.enabled {
+            places::if_prg_ram(cart, address)
+        } else {
+            Landing::At(Place::Nowhere)
+        }
+    }
+
+    fn write_landing(self, cart: Cartridge, address: u16) -> Landing
+        ensures { λ r. ⌜ r ≡ landsIn cart (ramWritten self cart) address ⌝ }
+    {
+        if self.enabled & !self.denied {
+            places::if_prg_ram(cart, address)
+        } else {
+            Landing::At(Place::Nowhere)
+        }
+    }
+}
+
 // Rn as 2n and Rn + 1 as 2n + 1: a row for each CHR mode, an entry for each 1 KB slot.
 const CHOICES: [[u8; 8]; 2] = [[0, 1, 2, 3, 4, 6, 8, 10], [4, 6, 8, 10, 0, 1, 2, 3]];
 
@@ -239,11 +300,10 @@ pub fn move_of(value: u8, address: u16) -> Move
         } else {
             Move::Data(value)
         },
-        // Odd: PRG RAM protection, which the Rust leaves out.
         0xa000..=0xbfff => if even {
             Move::Screens(value)
         } else {
-            Move::Nothing
+            Move::Protect(value)
         },
         0xc000..=0xdfff => if even {
             Move::Latch(value)
@@ -256,14 +316,15 @@ pub fn move_of(value: u8, address: u16) -> Move
 }
 
 impl Move {
-    pub fn applied(self, mut mmc3: Mmc3) -> Mmc3
-        ensures { λ r. ⌜ r ≡ applied self mmc3 ⌝ }
+    pub fn applied(self, mode: Mode, mut mmc3: Mmc3) -> Mmc3
+        ensures { λ r. ⌜ r ≡ applied mode self mmc3 ⌝ }
     {
         match self {
             Move::Nothing => mmc3,
             Move::Select(value) => mmc3.bank_select(value),
             Move::Data(value) => mmc3.bank_data(value),
             Move::Screens(_) => mmc3,
+            Move::Protect(value) => mmc3.protect(mode, value),
             Move::Latch(value) => {
                 mmc3.irq.latch = value;
                 mmc3
@@ -289,6 +350,7 @@ impl Move {
             Move::Nothing => Mirrors::AsBefore,
             Move::Select(_) => Mirrors::AsBefore,
             Move::Data(_) => Mirrors::AsBefore,
+            Move::Protect(_) => Mirrors::AsBefore,
             Move::Latch(_) => Mirrors::AsBefore,
             Move::Reload => Mirrors::AsBefore,
             Move::Enable => Mirrors::AsBefore,
@@ -313,6 +375,10 @@ impl Mmc3 {
                 reload: false,
             },
             line: false,
+            ram: RamMarks {
+                enabled: true,
+                denied: false,
+            },
         }
     }
 
@@ -320,6 +386,7 @@ impl Mmc3 {
         ensures { λ r. ⌜ r ≡ isStart self ⌝ }
     {
         let irq = self.irq;
+        let ram = self.ram;
         let r = self.regs;
         let banks = (r[0] == 0)
             & (r[1] == 0)
@@ -335,15 +402,17 @@ impl Mmc3 {
             & banks
             & !self.line
             & irq.is_start()
+            & ram.is_start()
     }
 
     pub fn fits(self, mode: Mode) -> bool
         ensures { λ r. ⌜ r ≡ fits mode self ⌝ }
     {
         let r = self.regs;
+        let ram = self.ram;
         let modes = (self.select < 8) & (self.prgmode < 2) & (self.chrmode < 2);
         let banks = (r[0] % 2 == 0) & (r[1] % 2 == 0) & (r[6] < 64) & (r[7] < 64);
-        modes & banks & line_fits(mode, self.line)
+        modes & banks & line_fits(mode, self.line) & ram.fits(mode)
     }
 
     fn register(self, k: u8) -> u8
@@ -402,9 +471,10 @@ impl Mmc3 {
     pub fn read_landing(self, cart: Cartridge, address: u16) -> Landing
         ensures { λ r. ⌜ r ≡ landsIn cart (readWindow self cart address) address ⌝ }
     {
+        let ram = self.ram;
         match address {
             0x0000..=0x1fff => self.read_chr(cart, address),
-            0x6000..=0x7fff => places::if_prg_ram(cart, address),
+            0x6000..=0x7fff => ram.read_landing(cart, address),
             0x8000..=0xffff => self.read_prg(cart, address),
             _ => Landing::At(Place::Nowhere),
         }
@@ -434,12 +504,13 @@ impl Mmc3 {
         ensures { λ r. ⌜ r ≡ landsIn cart (writeWindow self cart address) address ⌝ }
     {
         let mode = cart.mode;
+        let ram = self.ram;
         match address {
             0x0000..=0x1fff => match mode {
                 Mode::House => Landing::At(Place::Nowhere),
                 Mode::Board => self.board_write_chr(cart, address),
             },
-            0x6000..=0x7fff => places::if_prg_ram(cart, address),
+            0x6000..=0x7fff => ram.write_landing(cart, address),
             0x8000..=0xffff => match mode {
                 Mode::House => self.acknowledged(cart, address),
                 Mode::Board => Landing::At(Place::Nowhere),
@@ -449,7 +520,7 @@ impl Mmc3 {
     }
 
     fn bank_select(mut self, value: u8) -> Mmc3
-        ensures { λ r. ⌜ r ≡ applied (Move.Select value) self ⌝ }
+        ensures { λ r. ⌜ ((m : Mode) → r ≡ applied m (Move.Select value) self) ⌝ }
     {
         self.select = value % 8;
         self.prgmode = value / 64 % 2;
@@ -458,7 +529,7 @@ impl Mmc3 {
     }
 
     fn bank_data(self, value: u8) -> Mmc3
-        ensures { λ r. ⌜ r ≡ applied (Move.Data value) self ⌝ }
+        ensures { λ r. ⌜ ((m : Mode) → r ≡ applied m (Move.Data value) self) ⌝ }
     {
         let mut next = self;
         let kept = data_bits(self.select, value);
@@ -469,21 +540,30 @@ impl Mmc3 {
         next
     }
 
+    fn protect(mut self, mode: Mode, value: u8) -> Mmc3
+        ensures { λ r. ⌜ r ≡ applied mode (Move.Protect value) self ⌝ }
+    {
+        let ram = self.ram;
+        let next = ram.after(mode, value);
+        self.ram = next;
+        self
+    }
+
     // It also acknowledges: the line goes low.
     fn disable(mut self) -> Mmc3
-        ensures { λ r. ⌜ r ≡ applied Move.Disable self ⌝ }
+        ensures { λ r. ⌜ ((m : Mode) → r ≡ applied m Move.Disable self) ⌝ }
     {
         self.irq.enabled = false;
         self.line = false;
         self
     }
 
-    pub fn write8(self, value: u8, address: u16) -> Wrote
-        ensures { λ r. ⌜ r ≡ written self value address ⌝ }
+    pub fn write8(self, mode: Mode, value: u8, address: u16) -> Wrote
+        ensures { λ r. ⌜ r ≡ written mode self value address ⌝ }
     {
         let made = move_of(value, address);
         Wrote {
-            mmc3: made.applied(self),
+            mmc3: made.applied(mode, self),
             mirrors: made.mirrors(),
         }
     }

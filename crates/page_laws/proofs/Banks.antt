@@ -1,13 +1,15 @@
--- The banks that MMC1 and MMC3 show are the same where the registers of their part are. Assumes nothing.
+-- The banks that MMC1 and MMC3 show, and the marks of RAM, are the same where the registers of their part are. Assumes nothing.
 use Prim.Native.Nat.{ℕ, zero, suc, _+_, _<_}
-use mathlib.Core.Path.{_≡_, refl, ap, _∙_}
+use mathlib.Core.Path.{_≡_, refl, sym, ap, _∙_}
 use mathlib.Core.Bool.{Bool, true, _&&_}
 use mathlib.Core.List.{List, [], _∷_}
 use native.Mathlib.Omega.{arith}
 use lib.Dec.{ltb, eqb}
+use mir.Val.{boolByte}
 use lib.ListN.{getD}
 use borrow.Author.Tests.{ltb-true, eqb-true}
 use Rattle.rules.proofs.Bools.{and-left, and-right, split-3, split-5}
+use Rattle.rules.proofs.Rows.{mark-there}
 use Rattle.cartridge.specs.declared.Cartridge.{Cartridge}
 use Rattle.mmc1.specs.Read as mmc1
 use Rattle.mmc1.specs.declared.Mmc1.{Mmc1}
@@ -15,7 +17,7 @@ use Rattle.mmc3.specs.Read as mmc3
 use Rattle.mmc3.specs.Read.{Choice}
 use Rattle.mmc3.specs.Read.Choice.{R, R+1}
 use Rattle.mmc3.specs.declared.Mmc3.{Mmc3}
-use Rattle.pages.specs.Parts.{sameChr1, samePrg1, sameR, sameChr3, samePrg3}
+use Rattle.pages.specs.Parts.{sameChr1, samePrg1, sameR, sameMark, sameChr3, samePrg3, sameRam3}
 
 module _ (m n : Mmc1) (c : Cartridge) (a : ℕ) where
   pub mmc1-chr : sameChr1 (m .regs) (n .regs) ≡ true → mmc1.chrBank m c a ≡ mmc1.chrBank n c a
@@ -89,3 +91,16 @@ module _ (m n : Mmc3) where
   mmc3-prg e c a =
       let p = split-3 (eqb (m .prgmode) (n .prgmode)) (sameR m n 6) (sameR m n 7) e in
       rw (eqb-true (m .prgmode) (n .prgmode) (p .0), same-r 6 (p .1), same-r 7 (p .2)) refl
+
+-- a mark is the same where its byte is
+same-mark : (s t : Bool) → sameMark s t ≡ true → s ≡ t
+same-mark s t e = sym (mark-there s) ∙ ap (λ (n : ℕ). eqb n 1) (eqb-true (boolByte s) (boolByte t) e) ∙ mark-there t
+
+pub mmc3-ram : (m n : Mmc3) → sameRam3 m n ≡ true → m .ram ≡ n .ram
+unfolding sameRam3
+mmc3-ram m n e =
+    let r = m .ram in
+    let s = n .ram in
+    let f = and-left (sameMark (r .enabled) (s .enabled)) (sameMark (r .denied) (s .denied)) e in
+    let g = and-right (sameMark (r .enabled) (s .enabled)) (sameMark (r .denied) (s .denied)) e in
+    λ i. record { enabled = same-mark (r .enabled) (s .enabled) f i; denied = same-mark (r .denied) (s .denied) g i }

@@ -1,3 +1,4 @@
 pub mod Whole
 pub mod Moves
 pub mod Through
+pub mod Locked

@@ -10,4 +10,4 @@ movedParts b d = partsMoved (b .cart .mapper) (b .registers) (d .registers)
 
 -- a call that has moved no part
 abbrev pub unmoved : Parts
-unmoved = record { chr = false; prg = false }
+unmoved = record { chr = false; prg = false; ram = false }

@@ -5,7 +5,7 @@ ghost use Prim.Native.Nat.{_+_, _<_, _≤_};
 ghost use lib.Dec.{leb};
 ghost use lib.ListN.{length};
 ghost use Rattle.pages.specs.Pages.{placeRead, placeWritten, refusedPage, readFrom, writtenTo, hasRegisters, readPage, writePage, numbers, PagesIf, PagesOwes};
-ghost use Rattle.pages.specs.Parts.{sameChr1, samePrg1, sameChr3, samePrg3, sameChr, samePrg, partsMoved};
+ghost use Rattle.pages.specs.Parts.{sameChr1, samePrg1, sameChr3, samePrg3, sameRam3, sameChr, samePrg, sameRam, partsMoved};
 use boards::Board;
 use boards::Registers;
 use cartridge::Cartridge;
@@ -21,10 +21,11 @@ pub enum PagesAnswer {
     Refused(Refusal),
 }
 
-// Pages 0 to 7, and pages 32 to 63. Those in between never move.
+// Pages 0 to 7, pages 32 to 63, and pages 24 to 31. Those from 8 to 23 never move.
 pub struct Parts {
     pub chr: bool,
     pub prg: bool,
+    pub ram: bool,
 }
 
 // A page is one number: its kind, 2^28 times, and an offset.
@@ -192,6 +193,14 @@ fn same_prg_3(a: Mmc3, b: Mmc3) -> bool
     (a.prgmode == b.prgmode) & (x[6] == y[6]) & (x[7] == y[7])
 }
 
+fn same_ram_3(a: Mmc3, b: Mmc3) -> bool
+    ensures { λ r. ⌜ r ≡ sameRam3 a b ⌝ }
+{
+    let x = a.ram;
+    let y = b.ram;
+    ((x.enabled as u8) == (y.enabled as u8)) & ((x.denied as u8) == (y.denied as u8))
+}
+
 // All that 0000-1FFF hangs on beside the cartridge.
 fn same_chr(mapper: MapperType, a: Registers, b: Registers) -> bool
     ensures { λ r. ⌜ r ≡ sameChr mapper a b ⌝ }
@@ -226,6 +235,17 @@ fn same_prg(mapper: MapperType, a: Registers, b: Registers) -> bool
     }
 }
 
+// All that 6000-7FFF hangs on beside the cartridge.
+fn same_ram(mapper: MapperType, a: Registers, b: Registers) -> bool
+    ensures { λ r. ⌜ r ≡ sameRam mapper a b ⌝ }
+{
+    if mapper.is(MapperType::Mmc3) {
+        same_ram_3(a.mmc3, b.mmc3)
+    } else {
+        true
+    }
+}
+
 // Which pages may show something else than before, where a call has left these registers.
 pub fn moved(mapper: MapperType, before: Registers, after: Registers) -> Parts
     ensures { λ r. ⌜ r ≡ partsMoved mapper before after ⌝ }
@@ -233,5 +253,6 @@ pub fn moved(mapper: MapperType, before: Registers, after: Registers) -> Parts
     Parts {
         chr: !same_chr(mapper, before, after),
         prg: !same_prg(mapper, before, after),
+        ram: !same_ram(mapper, before, after),
     }
 }

@@ -224,7 +224,7 @@ module _ (r q : ℕ) where
 
   -- by whether MMC3 is its own board's
   mmc3-of : (mode : Mode) (t : Bool) → cond t (mmc3Fits mode m r q) (eqb r 0 && eqb q 0x1000000) ≡ (cond t (mmc3.fits mode m) (mmc3.isStart m) && eqb (regsWord (m .regs)) r && eqb (irqWord m) q)
-  unfolding mmc3Fits mmc3.isStart mmc3.irqIsStart mmc3.start register
+  unfolding mmc3Fits mmc3.isStart mmc3.irqIsStart mmc3.ramIsStart mmc3.start register
   mmc3-of mode true = refl
   mmc3-of mode false =
       both-ways (eqb r 0 && eqb q 0x1000000) _

@@ -49,7 +49,7 @@ mmc1-unused m = (
 
 -- of MMC3 as its digits give it
 pub mmc3-start : (d e : List ℕ) → mmc3.isStart (mmc3Of d e) ≡ true → mmc3Of d e ≡ mmc3.start
-unfolding mmc3.isStart mmc3.irqIsStart mmc3.start register
+unfolding mmc3.isStart mmc3.irqIsStart mmc3.ramIsStart mmc3.start register
 mmc3-start d e h =
     let z : (k : ℕ) → eqb (digit e k) 0 ≡ true → digit e k ≡ 0 = λ k t. eqb-true (digit e k) 0 t in
     let select = z 2 (search (and-left, and-right)) in
@@ -61,6 +61,8 @@ mmc3-start d e h =
     let counter = z 1 (search (and-left, and-right)) in
     let reload = not-true (eqb (digit e 6) 1) (search (and-left, and-right)) in
     let line = not-true (eqb (digit e 7) 1) (search (and-left, and-right)) in
+    let ram : eqb (digit e 8) 1 ≡ true = search (and-left, and-right) in
+    let denied = not-true (eqb (digit e 9) 1) (search (and-left, and-right)) in
     λ i. record {
       select = select i;
       prgmode = prgmode i;
@@ -68,4 +70,5 @@ mmc3-start d e h =
       regs = regs i;
       irq = record { enabled = enabled i; latch = latch i; counter = counter i; reload = reload i };
       line = line i;
+      ram = record { enabled = ram i; denied = denied i };
     }

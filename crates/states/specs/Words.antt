@@ -116,10 +116,11 @@ regsWord r = flatWord bytes (regsDigits r)
 abbrev pub irqSizes : List ℕ
 irqSizes = 0x100 ∷ 0x100 ∷ 8 ∷ 2 ∷ 2 ∷ 2 ∷ 2 ∷ 2 ∷ 2 ∷ 2 ∷ []
 
--- RAM's two marks are reserved: enabled and writable
+-- the digits of that word
 abbrev pub irqDigits : Mmc3 → List ℕ
 irqDigits m =
-    m .irq .latch ∷ m .irq .counter ∷ m .select ∷ m .prgmode ∷ m .chrmode ∷ boolByte (m .irq .enabled) ∷ boolByte (m .irq .reload) ∷ boolByte (m .line) ∷ 1 ∷ 0
+    m .irq .latch ∷ m .irq .counter ∷ m .select ∷ m .prgmode ∷ m .chrmode ∷ boolByte (m .irq .enabled) ∷ boolByte (m .irq .reload) ∷ boolByte (m .line)
+    ∷ boolByte (m .ram .enabled) ∷ boolByte (m .ram .denied)
     ∷ []
 
 -- word 4 of the rest of MMC3
@@ -136,6 +137,7 @@ mmc3Of r q =
       regs = regsDigits r;
       irq = record { enabled = eqb (digit q 5) 1; latch = digit q 0; counter = digit q 1; reload = eqb (digit q 6) 1 };
       line = eqb (digit q 7) 1;
+      ram = record { enabled = eqb (digit q 8) 1; denied = eqb (digit q 9) 1 };
     }
 
 -- the words of a board

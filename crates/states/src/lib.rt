@@ -20,6 +20,7 @@ use mmc1::Regs;
 use mmc1::Serial;
 use mmc3::Irq;
 use mmc3::Mmc3;
+use mmc3::RamMarks;
 use uxrom::Uxrom;
 
 pub struct Words {
@@ -116,7 +117,6 @@ fn regs_row(r0: u8, r1: u8, r2: u8, r3: u8, r4: u8, r5: u8, r6: u8, r7: u8) -> u
         + (r7 as u64) * 0x100_0000_0000_0000
 }
 
-// RAM is enabled and writable.
 fn irq_row(
     latch: u8,
     counter: u8,
@@ -126,8 +126,10 @@ fn irq_row(
     enabled: u8,
     reload: u8,
     line: u8,
+    ram: u8,
+    denied: u8,
 ) -> u64
-    ensures { λ r. ⌜ r ≡ flatWord irqSizes (latch ∷ counter ∷ select ∷ prgmode ∷ chrmode ∷ enabled ∷ reload ∷ line ∷ 1 ∷ 0 ∷ []) ⌝ }
+    ensures { λ r. ⌜ r ≡ flatWord irqSizes (latch ∷ counter ∷ select ∷ prgmode ∷ chrmode ∷ enabled ∷ reload ∷ line ∷ ram ∷ denied ∷ []) ⌝ }
 {
     (latch as u64)
         + (counter as u64) * 0x100
@@ -137,7 +139,8 @@ fn irq_row(
         + (enabled as u64) * 0x20_0000
         + (reload as u64) * 0x40_0000
         + (line as u64) * 0x80_0000
-        + 0x100_0000
+        + (ram as u64) * 0x100_0000
+        + (denied as u64) * 0x200_0000
 }
 
 fn cart_word(cart: Cartridge, screens: Mirroring) -> u64
@@ -186,6 +189,7 @@ fn irq_word(mmc3: Mmc3) -> u64
     ensures { λ r. ⌜ r ≡ irqWord mmc3 ⌝ }
 {
     let irq = mmc3.irq;
+    let ram = mmc3.ram;
     irq_row(
         irq.latch,
         irq.counter,
@@ -195,6 +199,8 @@ fn irq_word(mmc3: Mmc3) -> u64
         irq.enabled as u8,
         irq.reload as u8,
         mmc3.line as u8,
+        ram.enabled as u8,
+        ram.denied as u8,
     )
 }
 
@@ -363,6 +369,10 @@ pub fn mmc3_in(r: u64, q: u64) -> Mmc3
             reload: q / 0x40_0000 % 2 == 1,
         },
         line: q / 0x80_0000 % 2 == 1,
+        ram: RamMarks {
+            enabled: q / 0x100_0000 % 2 == 1,
+            denied: q / 0x200_0000 % 2 == 1,
+        },
     }
 }
 

@@ -1,4 +1,4 @@
--- By the two tests. Assumes nothing.
+-- A bit for each part. Assumes nothing.
 use Rattle.rules.proofs.Picks.{picks}
 use native.Mathlib.Omega.{arith}
 use Rattle.exports.specs.Numbers.{movedNumber}
@@ -10,7 +10,8 @@ unfolding movedNumber
 moved-number-spec =
     tie.close
     (tie.spec
-    (λ c. (simp (c .before .if1 .taken, c .if2 .taken), omega arith))
-    (λ c. (simp (c .before .if1 .taken, c .if2 .left), omega arith))
-    (λ c. (simp (c .before .if1 .left, c .if3 .taken), omega arith))
-    (λ c. (simp (c .before .if1 .left, c .if3 .left), omega arith)))
+    (λ c κs. search picks) (λ c κs. search picks) (λ c. search picks) (λ c κs. search picks) (λ c. search picks)
+    (λ c. (
+      simp (c .bit3 .ensures .0, c .before .bit2 .ensures .0, c .before .before .bit .ensures .0),
+      omega (arith, c .bit3 .ensures .1, c .before .bit2 .ensures .1, c .before .before .bit .ensures .1),
+    )))

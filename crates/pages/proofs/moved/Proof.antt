@@ -11,4 +11,5 @@ moved-spec =
     (tie.spec
     (λ c κs. search picks)
     (λ c κs. search picks)
-    (λ c. cc))
+    (λ c κs. search picks)
+    (λ c. simp (c .same-ram .ensures, c .before .same-prg .ensures, c .before .before .same-chr .ensures)))

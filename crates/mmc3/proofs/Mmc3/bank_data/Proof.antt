@@ -15,5 +15,5 @@ bank-data-spec =
     tie.close
     (tie.spec
     (λ c κs. search picks) (λ c. search picks) (λ c. search picks)
-    (λ c. simp (c .before .before .data-bits .ensures))
-    (λ c. let m = c .before .before .before .args .self in let e : length (m .regs) ≡ 8 = search needs in rw (set-out (m .regs) (m .select) (dataBits (m .select) (c .before .before .before .args .value)) (omega arith)) refl))
+    (λ c m. simp (c .before .before .data-bits .ensures))
+    (λ c mode. let m = c .before .before .before .args .self in let e : length (m .regs) ≡ 8 = search needs in rw (set-out (m .regs) (m .select) (dataBits (m .select) (c .before .before .before .args .value)) (omega arith)) refl))

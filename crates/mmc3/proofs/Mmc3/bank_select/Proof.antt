@@ -6,4 +6,4 @@ use Rattle.mmc3.proofs.Mmc3.bank_select.Tie as tie
 
 pub bank-select-spec : {M : Type 1} → statement M
 unfolding applied
-bank-select-spec = tie.close (tie.spec (λ c. search picks))
+bank-select-spec = tie.close (tie.spec (λ c m. search picks))

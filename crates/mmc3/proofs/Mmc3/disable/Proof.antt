@@ -7,4 +7,4 @@ use Rattle.mmc3.proofs.Mmc3.disable.Tie as tie
 
 pub disable-spec : {M : Type 1} → statement M
 unfolding applied withIrq
-disable-spec = tie.close (tie.spec (λ c. search picks))
+disable-spec = tie.close (tie.spec (λ c m. search picks))

@@ -11,5 +11,5 @@ is-start-spec =
     tie.close
     (tie.spec
     (λ c. search picks) (λ c. search picks) (λ c. search picks) (λ c. search picks) (λ c. search picks)
-    (λ c. search picks) (λ c. search picks) (λ c. search picks) (λ c κs. search picks)
-    (λ c. simp (c .is-start .ensures)))
+    (λ c. search picks) (λ c. search picks) (λ c. search picks) (λ c κs. search picks) (λ c κs. search picks)
+    (λ c. simp (c .is-start2 .ensures, c .before .is-start .ensures)))

@@ -1,4 +1,4 @@
--- By the eight moves. Assumes nothing.
+-- By the nine moves. Assumes nothing.
 use Rattle.rules.proofs.Picks.{picks}
 use Rattle.mmc3.specs.Write.{mirrorsOf}
 use Rattle.mmc3.proofs.Move.mirrors.Statement.{statement}
@@ -10,6 +10,6 @@ mirrors-spec =
     tie.close
     (tie.spec
     (λ c. search picks) (λ c κs. search picks) (λ c. search picks) (λ c. search picks) (λ c. search picks)
-    (λ c. search picks) (λ c. search picks) (λ c. search picks) (λ c. search picks) (λ c. cc)
+    (λ c. search picks) (λ c. search picks) (λ c. search picks) (λ c. search picks) (λ c. search picks) (λ c. cc)
     (λ c. cc) (λ c. cc) (λ c. cc) (λ c. cc) (λ c. cc)
-    (λ c. cc) (λ c. cc))
+    (λ c. cc) (λ c. cc) (λ c. cc))
