@@ -1,4 +1,6 @@
 // AxROM: one 32 KB PRG bank register, with the screen in the same byte. Not in the Rust: board mode only.
+#![tactic(auto)]
+
 ghost use Rattle.std.specs.Prelude.{◌≡◌};
 ghost use Rattle.places.specs.Windows.{lands_in};
 ghost use Rattle.axrom.specs.Axrom.{start, is_start, fits, read_window, write_window, screen, written};
@@ -8,13 +10,13 @@ use cartridge::Cartridge;
 use common::{Mirroring, Mirrors};
 use places::Landing;
 
-#[derive(Drop)]
+#[derive(Clone, Copy)]
 pub struct Axrom {
     pub bank: u8,
 }
 
 // What a write leaves, and what it asks of the screens.
-#[derive(Drop)]
+#[derive(Clone, Copy)]
 pub struct Wrote {
     pub axrom: Axrom,
     pub mirrors: Mirrors,

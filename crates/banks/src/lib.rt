@@ -1,4 +1,6 @@
 // Bank numbers, a type for each unit, and the bytes of a bank as a part of the caller's own data.
+#![tactic(auto)]
+
 ghost use Rattle.std.specs.Prelude.{◌≡◌, ◌*◌, ◌%◌};
 ghost use Rattle.common.specs.Common.{KB1, KB4, KB8, KB16, KB32};
 ghost use Rattle.banks.specs.Banks.{shown, start_at, bank_start, bank_of};
@@ -6,14 +8,14 @@ ghost use Rattle.banks.specs.Banks.{shown, start_at, bank_start, bank_of};
 use common::{Mode, kilobytes};
 
 // Where a bank starts in its data.
-#[derive(Drop)]
+#[derive(Clone, Copy)]
 pub enum Start {
     At(u32),
     PastEnd,
 }
 
 // A bank number in 1 KB units.
-#[derive(Drop)]
+#[derive(Clone, Copy)]
 pub struct Bank1K(pub u32);
 
 impl Bank1K {
@@ -33,7 +35,7 @@ impl Bank1K {
 }
 
 // A bank number in 4 KB units.
-#[derive(Drop)]
+#[derive(Clone, Copy)]
 pub struct Bank4K(pub u32);
 
 impl Bank4K {
@@ -53,7 +55,7 @@ impl Bank4K {
 }
 
 // A bank number in 8 KB units.
-#[derive(Drop)]
+#[derive(Clone, Copy)]
 pub struct Bank8K(pub u32);
 
 impl Bank8K {
@@ -73,7 +75,7 @@ impl Bank8K {
 }
 
 // A bank number in 16 KB units.
-#[derive(Drop)]
+#[derive(Clone, Copy)]
 pub struct Bank16K(pub u32);
 
 impl Bank16K {
@@ -93,7 +95,7 @@ impl Bank16K {
 }
 
 // A bank number in 32 KB units.
-#[derive(Drop)]
+#[derive(Clone, Copy)]
 pub struct Bank32K(pub u32);
 
 impl Bank32K {

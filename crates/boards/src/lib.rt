@@ -1,5 +1,7 @@
 // The board of any of the five mappers, and its public calls: load, read, write, clock, and play, which is any of the last three.
 // Ported from potatis nes/src/mappers/mod.rs, which chooses the board.
+#![tactic(auto)]
+
 ghost use Rattle.std.specs.Prelude.{◌≡◌};
 ghost use Rattle.places.specs.Places.{byte_at};
 ghost use Rattle.boards.specs.Registers.{mmc1_start, start, part_fits, fits, asking, moved, ticked};
@@ -20,7 +22,7 @@ use places::{Landing, ReadAnswer};
 use uxrom::Uxrom;
 
 // One record serves all boards, with a part for each: a part that the board doesn't use holds its start value.
-#[derive(Drop)]
+#[derive(Clone, Copy)]
 pub struct Registers {
     pub uxrom: Uxrom,
     pub cnrom: Cnrom,
@@ -29,20 +31,20 @@ pub struct Registers {
 }
 
 // What a write leaves of the registers, and what it asks of the screens.
-#[derive(Drop)]
+#[derive(Clone, Copy)]
 pub struct Moved {
     pub registers: Registers,
     pub mirrors: Mirrors,
 }
 
 // What a clock leaves of them, and whether its answer is yes.
-#[derive(Drop)]
+#[derive(Clone, Copy)]
 pub struct Ticked {
     pub registers: Registers,
     pub yes: bool,
 }
 
-#[derive(Drop)]
+#[derive(Clone, Copy)]
 pub struct Board {
     pub cart: Cartridge,
     // The current one. In house mode it stays the header's.
@@ -50,60 +52,60 @@ pub struct Board {
     pub registers: Registers,
 }
 
-#[derive(Drop)]
+#[derive(Clone, Copy)]
 pub enum LoadAnswer {
     Accepted,
     Refused(Refusal),
 }
 
-#[derive(Drop)]
+#[derive(Clone, Copy)]
 pub struct Loaded {
     pub board: Board,
     pub answer: LoadAnswer,
 }
 
-#[derive(Drop)]
+#[derive(Clone, Copy)]
 pub enum WriteAnswer {
     Quiet,
     Notice(Mirroring),
     Refused(Refusal),
 }
 
-#[derive(Drop)]
+#[derive(Clone, Copy)]
 pub struct Written {
     pub board: Board,
     pub answer: WriteAnswer,
 }
 
-#[derive(Drop)]
+#[derive(Clone, Copy)]
 pub enum ClockAnswer {
     No,
     Yes,
     Refused(Refusal),
 }
 
-#[derive(Drop)]
+#[derive(Clone, Copy)]
 pub struct Clocked {
     pub board: Board,
     pub answer: ClockAnswer,
 }
 
 // The three calls of a loaded board as one type, their answers, and what a call gives with its answer: the next board.
-#[derive(Drop)]
+#[derive(Clone, Copy)]
 pub enum Event {
     Read(u16),
     Write(u16, u8),
     Clock,
 }
 
-#[derive(Drop)]
+#[derive(Clone, Copy)]
 pub enum Answer {
     Read(ReadAnswer),
     Write(WriteAnswer),
     Clock(ClockAnswer),
 }
 
-#[derive(Drop)]
+#[derive(Clone, Copy)]
 pub struct Played {
     pub board: Board,
     pub answer: Answer,

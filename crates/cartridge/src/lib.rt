@@ -1,5 +1,7 @@
 // The iNES header, and what a load accepts and leaves. Ported from potatis nes/src/cartridge.rs; what board
 // mode reads of an NES 2.0 header is not in the Rust.
+#![tactic(auto)]
+
 ghost use Rattle.std.specs.Prelude.{◌≡◌, ◌+◌, ◌*◌, length};
 ghost use Rattle.cartridge.specs.Mappers.{mapper_number, is_mapper, mapper_type};
 ghost use Rattle.cartridge.specs.Header.{is_ines, header_of, header_read, total_size, mapper_of, mirroring_of, is_nes2, is_special};
@@ -17,7 +19,7 @@ const PRG_ROM_BLOCK_SIZE: u32 = kilobytes::KB16;
 const CHR_ROM_BLOCK_SIZE: u32 = kilobytes::KB8;
 
 // Bytes 4 to 15 as they stand; byte 4 counts PRG blocks, byte 5 CHR blocks.
-#[derive(Drop)]
+#[derive(Clone, Copy)]
 pub struct Header {
     pub prg: u8,
     pub chr: u8,
@@ -33,7 +35,7 @@ pub struct Header {
     pub flags15: u8,
 }
 
-#[derive(Drop)]
+#[derive(Clone, Copy)]
 pub enum HeaderAnswer {
     Read(Header),
     Refused(Refusal),
@@ -219,7 +221,7 @@ fn read_header(bin: &[u8]) -> Header
     }
 }
 
-#[derive(Drop)]
+#[derive(Clone, Copy)]
 pub enum MapperType {
     Nrom,
     Mmc1,
@@ -267,7 +269,7 @@ impl MapperType {
 }
 
 // What a load keeps of an image. The bytes stay the caller's.
-#[derive(Drop)]
+#[derive(Clone, Copy)]
 pub struct Cartridge {
     pub mode: Mode,
     pub mapper: MapperType,
@@ -368,6 +370,7 @@ impl Cartridge {
 }
 
 // Above every count that a header can say.
+#[tactic(auto, unfolding(crate::specs::Load::counts_end))]
 fn counts_end(mode: Mode, mark: bool) -> u16
     ensures { result ≡ counts_end mode mark }
 {
@@ -407,7 +410,7 @@ fn needed(prg: u16, chr: u16) -> u32
 }
 
 // What a load decides.
-#[derive(Drop)]
+#[derive(Clone, Copy)]
 pub enum Verdict {
     Take,
     Refuse(Refusal),
@@ -502,12 +505,13 @@ fn cartridge_of(h: Header, mode: Mode, len: usize) -> Cartridge
 }
 
 // What a load answers. The image stays the caller's.
-#[derive(Drop)]
+#[derive(Clone, Copy)]
 pub enum Loaded {
     Accepted(Cartridge),
     Refused(Refusal),
 }
 
+#[tactic(auto, unfolding(crate::specs::Load::loaded_as))]
 fn loaded_as(v: Verdict, c: Cartridge) -> Loaded
     ensures { result ≡ loaded_as v c }
 {
@@ -517,6 +521,7 @@ fn loaded_as(v: Verdict, c: Cartridge) -> Loaded
     }
 }
 
+#[tactic(auto, unfolding(crate::specs::Load::ram_after))]
 fn clear_if_taken(v: Verdict, ram: &mut [u8])
     ensures { ram.new ≡ ram_after v ram.old }
 {

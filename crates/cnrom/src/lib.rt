@@ -1,4 +1,6 @@
 // CNROM: one 8 KB CHR bank register. Ported from potatis nes/src/mappers/cnrom.rs.
+#![tactic(auto)]
+
 ghost use Rattle.std.specs.Prelude.{◌≡◌};
 ghost use Rattle.places.specs.Windows.{lands_in};
 ghost use Rattle.cnrom.specs.Cnrom.{start, is_start, fits, house_prg, house_read_window, board_read_window, read_window, house_write_window, write_window, written};
@@ -8,7 +10,7 @@ use cartridge::Cartridge;
 use common::{Mode, Refusal};
 use places::{Landing, Place};
 
-#[derive(Drop)]
+#[derive(Clone, Copy)]
 pub struct Cnrom {
     pub bank: u8,
 }

@@ -1,11 +1,13 @@
 // What every crate above uses: the two modes, the mirrorings, the refusals, the sizes, the test of bit 7.
 // Ported from potatis common/src/lib.rs.
+#![tactic(auto)]
+
 ghost use Rattle.std.specs.Prelude.{◌≡◌};
 ghost use Rattle.common.specs.Common.{is_signed, mode_number, mode_of};
 ghost use Rattle.common.specs.Answers.{refusal_number, mirroring_letter, same, is_headers};
 
 // A title gets one of the two at release and never leaves it.
-#[derive(Drop)]
+#[derive(Clone, Copy)]
 pub enum Mode {
     // Answers as the Rust does, oddities included.
     House,
@@ -36,7 +38,7 @@ impl Mode {
 }
 
 // The Rust has a fifth, HardwiredFourScreen, which is never answered: such an image is refused first.
-#[derive(Drop)]
+#[derive(Clone, Copy)]
 pub enum Mirroring {
     Horizontal,
     Vertical,
@@ -45,7 +47,7 @@ pub enum Mirroring {
 }
 
 // What a write asks of the screens.
-#[derive(Drop)]
+#[derive(Clone, Copy)]
 pub enum Mirrors {
     AsBefore,
     As(Mirroring),
@@ -84,7 +86,7 @@ impl Mirroring {
 }
 
 // What is wrong with an image, a call or a trace. Each has its number in the paper.
-#[derive(Drop)]
+#[derive(Clone, Copy)]
 pub enum Refusal {
     HeaderTooShort,
     HeaderNotInes,

@@ -1,1 +1,2 @@
 // Theorems over the exported calls. No code.
+#![tactic(auto)]

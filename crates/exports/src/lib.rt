@@ -1,5 +1,7 @@
 // The boards for callers that are not Rattle: numbers and byte slices, the board as 40 lent bytes.
 // No rule of a board stands here: a call decodes the state, calls the board and keeps what moved.
+#![tactic(auto)]
+
 ghost use Rattle.std.specs.Prelude.{◌≡◌, cond, [], ◌∷◌, ◌+◌, ◌≤◌, length};
 ghost use Rattle.rules.specs.Flat.{flat_word, flat_digits};
 ghost use Rattle.rules.specs.Rows.{bytes};
@@ -17,7 +19,7 @@ use places::ReadAnswer;
 use states::Words;
 
 // A write's answer, and the pages that it may have moved.
-#[derive(Drop)]
+#[derive(Clone, Copy)]
 pub struct Wrote {
     pub answer: u16,
     pub parts: Parts,

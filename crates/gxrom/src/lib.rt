@@ -1,4 +1,6 @@
 // GxROM: a 32 KB PRG bank and an 8 KB CHR bank in one byte. Not in the Rust: board mode only.
+#![tactic(auto)]
+
 ghost use Rattle.std.specs.Prelude.{◌≡◌};
 ghost use Rattle.places.specs.Windows.{lands_in};
 ghost use Rattle.gxrom.specs.Gxrom.{start, is_start, fits, read_window, write_window, written};
@@ -7,7 +9,7 @@ use banks::{Bank8K, Bank32K};
 use cartridge::Cartridge;
 use places::Landing;
 
-#[derive(Drop)]
+#[derive(Clone, Copy)]
 pub struct Gxrom {
     pub prg: u8,
     pub chr: u8,

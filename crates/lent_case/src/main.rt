@@ -1,5 +1,7 @@
 // An owner lends its interrupt unit to each clock. Plays P9 and P10 of document 01, in house mode, and the same clocks in board mode: there it says which of them
 // raise the line (M-101), which is the board's and not the unit's.
+#![tactic(auto)]
+
 ghost use Rattle.std.specs.Prelude.{◌≡◌};
 ghost use Rattle.mmc3.specs.Clock.{clock_in};
 

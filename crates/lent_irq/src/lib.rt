@@ -1,4 +1,6 @@
 // MMC3's interrupt unit lent by its owner: a clock updates it where it stands. In board mode a yes says that the line is to be raised; the line is the board's.
+#![tactic(auto)]
+
 ghost use Rattle.lent_irq.specs.Lent.{ClockOwes};
 
 use common::Mode;

@@ -1,5 +1,7 @@
 // Lent bytes: one read, one stored, all cleared, a part handed on. Every call takes every place.
 // Beside potatis mos6502/src/memory.rs, whose Bus gives the shape of a read and a write.
+#![tactic(auto)]
+
 ghost use Rattle.std.specs.Prelude.{◌≡◌, length, replicate, set};
 ghost use Rattle.memory.specs.Memory.{byte, tail, part, copied};
 

@@ -1,4 +1,6 @@
 // MMC1: a serial register and the four registers that it loads. Ported from potatis nes/src/mappers/mmc1.rs.
+#![tactic(auto)]
+
 ghost use Rattle.std.specs.Prelude.{◌≡◌, cond, ◌%◌};
 ghost use Rattle.common.specs.Common.{KB8};
 ghost use Rattle.memory.specs.Memory.{byte};
@@ -16,13 +18,13 @@ use memory::byte_at;
 use places::{Landing, Place};
 
 // The bits that have entered, the last of them as bit 4.
-#[derive(Drop)]
+#[derive(Clone, Copy)]
 pub struct Serial {
     pub count: u8,
     pub value: u8,
 }
 
-#[derive(Drop)]
+#[derive(Clone, Copy)]
 pub struct Regs {
     pub prgmode: u8,
     pub chrmode: u8,
@@ -31,14 +33,14 @@ pub struct Regs {
     pub prg: u8,
 }
 
-#[derive(Drop)]
+#[derive(Clone, Copy)]
 pub struct Mmc1 {
     pub serial: Serial,
     pub regs: Regs,
 }
 
 // What a completed load goes to.
-#[derive(Drop)]
+#[derive(Clone, Copy)]
 pub enum Register {
     Control,
     Chr0,
@@ -47,7 +49,7 @@ pub enum Register {
 }
 
 // What a write does. The fifth bit fills a register with five bits.
-#[derive(Drop)]
+#[derive(Clone, Copy)]
 pub enum Move {
     Nothing,
     Clear,
@@ -56,7 +58,7 @@ pub enum Move {
 }
 
 // The board after a write, and what the write asks of the screens.
-#[derive(Drop)]
+#[derive(Clone, Copy)]
 pub struct Wrote {
     pub mmc1: Mmc1,
     pub mirrors: Mirrors,

@@ -1,5 +1,7 @@
 // MMC3: eight bank registers, a counter that asks for an interrupt, and board mode's line and locks of RAM. Ported from potatis
 // nes/src/mappers/mmc3.rs.
+#![tactic(auto)]
+
 ghost use Rattle.std.specs.Prelude.{◌≡◌, ◌/◌};
 ghost use Rattle.places.specs.Windows.{lands_in, board_chr};
 ghost use Rattle.places.specs.Windows.Window.{Chr1K, Prg8K};
@@ -16,7 +18,7 @@ use common::{Mirroring, Mirrors, Mode, Refusal};
 use places::{Landing, Place};
 
 // The interrupt unit.
-#[derive(Drop)]
+#[derive(Clone, Copy)]
 pub struct Irq {
     pub enabled: bool,
     pub latch: u8,
@@ -25,14 +27,14 @@ pub struct Irq {
 }
 
 // What the real board lets a program do with PRG RAM. In house mode it is always enabled and writable.
-#[derive(Drop)]
+#[derive(Clone, Copy)]
 pub struct RamMarks {
     pub enabled: bool,
     // Writes are denied.
     pub denied: bool,
 }
 
-#[derive(Drop)]
+#[derive(Clone, Copy)]
 pub struct Mmc3 {
     // The register that a data write goes to.
     pub select: u8,
@@ -46,21 +48,21 @@ pub struct Mmc3 {
 }
 
 // The unit after a clock, and whether it raises the line; in house mode, whether an interrupt comes.
-#[derive(Drop)]
+#[derive(Clone, Copy)]
 pub struct Clocked {
     pub irq: Irq,
     pub answer: bool,
 }
 
 // The board after a clock, and its answer.
-#[derive(Drop)]
+#[derive(Clone, Copy)]
 pub struct Ticked {
     pub mmc3: Mmc3,
     pub answer: bool,
 }
 
 // What a write does: the register that its address names, with the byte where it counts.
-#[derive(Drop)]
+#[derive(Clone, Copy)]
 pub enum Move {
     Nothing,
     Select(u8),
@@ -74,7 +76,7 @@ pub enum Move {
 }
 
 // The board after a write, and what the write asks of the screens.
-#[derive(Drop)]
+#[derive(Clone, Copy)]
 pub struct Wrote {
     pub mmc3: Mmc3,
     pub mirrors: Mirrors,

@@ -1,4 +1,6 @@
 // NROM: no register. Ported from potatis nes/src/mappers/nrom.rs.
+#![tactic(auto)]
+
 ghost use Rattle.std.specs.Prelude.{◌≡◌};
 ghost use Rattle.places.specs.Windows.{lands_in};
 ghost use Rattle.nrom.specs.Nrom.{read_window, write_window};

@@ -1,5 +1,7 @@
 // The address space in 64 pages of 1 KB: where the bytes of each are, for a caller that reads and stores them itself, and which
 // pages a change of registers may have moved.
+#![tactic(auto)]
+
 ghost use Rattle.std.specs.Prelude.{◌≡◌, ◌+◌, ◌<◌, ◌≤◌, leb, length};
 ghost use Rattle.pages.specs.Pages.{place_read, place_written, refused_page, read_from, written_to, has_registers, read_page, write_page, numbers, PagesIf, PagesOwes};
 ghost use Rattle.pages.specs.Parts.{same_chr1, same_prg1, same_chr3, same_prg3, same_ram3, same_chr, same_prg, same_ram, parts_moved};
@@ -11,14 +13,14 @@ use mmc1::Regs;
 use mmc3::Mmc3;
 use places::{Landing, Place};
 
-#[derive(Drop)]
+#[derive(Clone, Copy)]
 pub enum PagesAnswer {
     Told,
     Refused(Refusal),
 }
 
 // Pages 0 to 7, pages 32 to 63, and pages 24 to 31. Those from 8 to 23 never move.
-#[derive(Drop)]
+#[derive(Clone, Copy)]
 pub struct Parts {
     pub chr: bool,
     pub prg: bool,

@@ -1,4 +1,6 @@
 // Where an address lands in what a board shows there, and the byte that is read or stored.
+#![tactic(auto)]
+
 ghost use Rattle.std.specs.Prelude.{◌≡◌};
 ghost use Rattle.places.specs.Windows.{lands_in, fixed_block, fixed_prg, house_chr, house_chr_ram, board_chr, board_chr_ram, whole_banks, prg_ram_of};
 ghost use Rattle.places.specs.Steps.{if_chr_ram};
@@ -10,7 +12,7 @@ use cartridge::Cartridge;
 use common::Refusal;
 
 // Counted from the start of the PRG data, of the CHR data, or of a lent RAM.
-#[derive(Drop)]
+#[derive(Clone, Copy)]
 pub enum Place {
     Prg(usize),
     Chr(usize),
@@ -19,18 +21,19 @@ pub enum Place {
     Nowhere,
 }
 
-#[derive(Drop)]
+#[derive(Clone, Copy)]
 pub enum Landing {
     At(Place),
     Refused(Refusal),
 }
 
-#[derive(Drop)]
+#[derive(Clone, Copy)]
 pub enum ReadAnswer {
     Byte(u8),
     Refused(Refusal),
 }
 
+#[tactic(auto, unfolding(crate::specs::Places::prg_at))]
 pub fn prg_at(start: Start, at: u16) -> Landing
     ensures { result ≡ prg_at start at }
 {
@@ -40,6 +43,7 @@ pub fn prg_at(start: Start, at: u16) -> Landing
     }
 }
 
+#[tactic(auto, unfolding(crate::specs::Places::chr_at))]
 pub fn chr_at(ram: bool, start: Start, at: u16) -> Landing
     ensures { result ≡ chr_at ram start at }
 {
@@ -210,6 +214,7 @@ pub fn whole_banks(cart: Cartridge, chr: Bank8K, prg: Bank32K, address: u16) -> 
 }
 
 // The byte at a place, 0 where there is none.
+#[tactic(auto, unfolding(crate::specs::Places::byte_of))]
 pub fn byte_of(cart: Cartridge, place: Place, image: &[u8], prg: &[u8], chr: &[u8]) -> u8
     ensures { result ≡ byte_of cart place image.now prg.now chr.now }
 {
@@ -223,6 +228,7 @@ pub fn byte_of(cart: Cartridge, place: Place, image: &[u8], prg: &[u8], chr: &[u
 }
 
 // The byte where an address lands.
+#[tactic(auto, unfolding(crate::specs::Places::byte_at))]
 pub fn byte_at(cart: Cartridge, landing: Landing, image: &[u8], prg: &[u8], chr: &[u8]) -> u8
     ensures { result ≡ byte_at cart landing image.now prg.now chr.now }
 {
@@ -233,6 +239,7 @@ pub fn byte_at(cart: Cartridge, landing: Landing, image: &[u8], prg: &[u8], chr:
 }
 
 // What a read answers that lands on this byte.
+#[tactic(auto, unfolding(crate::specs::Places::answer_at))]
 pub fn answer_at(landing: Landing, byte: u8) -> ReadAnswer
     ensures { result ≡ answer_at landing byte }
 {

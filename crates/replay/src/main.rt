@@ -1,4 +1,6 @@
 // Plays the recorded answers of the original Rust on the exported calls and compares each; docs/RECORDED.md has the file's form.
+#![tactic(auto)]
+
 const HOUSE: u8 = 0;
 
 const READ: u8 = 0;
@@ -20,7 +22,7 @@ const MARK: u8 = 0xA5;
 const ROOM: usize = 0x4_0000;
 
 // Where the next record stands in the file, how much was compared, and whether all of it is as recorded.
-#[derive(Drop)]
+#[derive(Clone, Copy)]
 pub struct Tally {
     pub at: usize,
     pub loads: u64,
@@ -31,20 +33,20 @@ pub struct Tally {
 }
 
 // What is lent to the calls.
-#[derive(Drop)]
+#[derive(Clone, Copy)]
 pub struct Lent {
     pub state: [u8; 40],
     pub prg: [u8; 8192],
     pub chr: [u8; 8192],
 }
 
-#[derive(Drop)]
+#[derive(Clone, Copy)]
 pub struct Run {
     pub tally: Tally,
     pub lent: Lent,
 }
 
-#[derive(Drop)]
+#[derive(Clone, Copy)]
 pub struct Called {
     pub answered: u16,
     pub lent: Lent,

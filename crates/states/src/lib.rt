@@ -1,5 +1,7 @@
 // A board as five words of 64 bits, each a row of digits: docs/ABI.md, "The state". No other crate knows
 // the layout: a digit's size stands in specs/, its place in the sums and quotients below.
+#![tactic(auto)]
+
 ghost use Rattle.std.specs.Prelude.{◌≡◌, [], ◌∷◌};
 ghost use Rattle.rules.specs.Rows.{bytes, digit};
 ghost use Rattle.rules.specs.Flat.{flat_word, flat_digits};
@@ -16,7 +18,7 @@ use mmc1::{Mmc1, Regs, Serial};
 use mmc3::{Irq, Mmc3, RamMarks};
 use uxrom::Uxrom;
 
-#[derive(Drop)]
+#[derive(Clone, Copy)]
 pub struct Words {
     pub cart: u64,
     pub length: u64,

@@ -1,4 +1,6 @@
 // Plays a trace: standard input to standard output. All the work is the library's.
+#![tactic(auto)]
+
 use libc::{STDERR_FILENO, STDIN_FILENO, STDOUT_FILENO};
 
 fn main() {

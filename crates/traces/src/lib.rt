@@ -1,5 +1,7 @@
 // Traces: an image and a list of events in, a line of text for each answer out.
 // The format and the text are document 01's, "Trace program". Not in the Rust.
+#![tactic(auto)]
+
 ghost use Rattle.std.specs.Prelude.{◌≡◌, ◌+◌, ◌≤◌, [], ◌∷◌, length};
 ghost use Rattle.traces.specs.Format.{big2, big4, image_length, mode_of, image_of, event_count, event_start, event_of, event_at, is_event, fits_at, events_fit, head_fits, is_trace};
 ghost use Rattle.traces.specs.Text.{digit, five_digits, leading, decimal, hex_digit, hex, refusal, read_text, notice_text, write_text, clock_text, letter, answer_text, between, line, refused_line, counts, load_line};
@@ -12,7 +14,7 @@ use common::{Mirroring, Mode, Refusal};
 use places::ReadAnswer;
 
 // The four bytes of an event.
-#[derive(Drop)]
+#[derive(Clone, Copy)]
 pub struct Fields {
     pub kind: u8,
     pub address: u16,
@@ -20,7 +22,7 @@ pub struct Fields {
 }
 
 // Where a run stands after an event: the next board, and the place in the text.
-#[derive(Drop)]
+#[derive(Clone, Copy)]
 pub struct Step {
     pub board: Board,
     pub at: usize,

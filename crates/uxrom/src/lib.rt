@@ -1,4 +1,6 @@
 // UxROM: one 16 KB bank register. Ported from potatis nes/src/mappers/uxrom.rs.
+#![tactic(auto)]
+
 ghost use Rattle.std.specs.Prelude.{◌≡◌};
 ghost use Rattle.places.specs.Windows.{lands_in};
 ghost use Rattle.uxrom.specs.Uxrom.{read_window, write_window, written, start, is_start};
@@ -8,7 +10,7 @@ use cartridge::Cartridge;
 use common::Mode;
 use places::{Landing, Place};
 
-#[derive(Drop)]
+#[derive(Clone, Copy)]
 pub struct Uxrom {
     pub bank: u8,
 }

@@ -12,4 +12,4 @@ start_at_spec =
     tie.close
     (tie.spec
     (λ c. search picks) (λ c. search picks) (λ c. search picks) (λ c. search picks)
-    (λ c. let a = c.before.args in let h : a.total < a.at + a.size = omega arith in search picks))
+    (λ c. let a = c.args in let h : a.total < a.at + a.size = omega arith in search picks))

@@ -10,5 +10,5 @@ wrapped_spec =
     tie.close
     (tie.spec
     (λ c. search picks)
-    (λ c. rw c.if1.true (sym (mod-zero c.before.args.n)))
+    (λ c. rw c.if-count-eq0.true (sym (mod-zero c.args.n)))
     (λ c. search picks))

@@ -8,4 +8,4 @@ load_spec =
     tie.close
     (tie.spec
     (λ c κs. search rules) (λ c κs. search rules) (λ c. search rules) (λ c. search rules)
-    (λ c. record { reply = cc; prg-ram = c.before.before.before.before.before.load.ensures.prg-ram; chr-ram = c.before.before.before.before.before.load.ensures.chr-ram }))
+    (λ c. record { reply = cc; prg_ram = c.before.before.before.before.before.load.ensures.prg_ram; chr_ram = c.before.before.before.before.before.load.ensures.chr_ram }))

@@ -9,6 +9,6 @@ first_of_spec =
     tie.close
     (tie.spec
     (λ c. cc) (λ c. cc) (λ c. cc) (λ c. cc) (λ c. cc) (λ c. cc)
-    (λ c. simp (c.if7.true, c.before.if6.false, c.before.before.if5.false, c.before.before.before.if4.false, c.before.before.before.before.if3.false, c.before.before.before.before.before.if2.false, c.before.before.before.before.before.before.if1.false))
-    (λ c. simp (c.if8.true, c.before.if7.false, c.before.before.if6.false, c.before.before.before.if5.false, c.before.before.before.before.if4.false, c.before.before.before.before.before.if3.false, c.before.before.before.before.before.before.if2.false, c.before.before.before.before.before.before.before.if1.false))
-    (λ c. simp (c.if8.false, c.before.if7.false, c.before.before.if6.false, c.before.before.before.if5.false, c.before.before.before.before.if4.false, c.before.before.before.before.before.if3.false, c.before.before.before.before.before.before.if2.false, c.before.before.before.before.before.before.before.if1.false)))
+    (λ c. simp (c.if-b7.true, c.if-b6.false, c.if-b16.false, c.if-b5.false, c.if-b4.false, c.if-b3.false, c.if-b9.false))
+    (λ c. simp (c.if-b8.true, c.if-b7.false, c.if-b6.false, c.if-b16.false, c.if-b5.false, c.if-b4.false, c.if-b3.false, c.if-b9.false))
+    (λ c. simp (c.if-b8.false, c.if-b7.false, c.if-b6.false, c.if-b16.false, c.if-b5.false, c.if-b4.false, c.if-b3.false, c.if-b9.false)))

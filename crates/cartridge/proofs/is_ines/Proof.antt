@@ -10,4 +10,4 @@ is_ines_spec =
     tie.close
     (tie.spec
     (λ c κs. search picks) (λ c κs. search picks) (λ c κs. search picks) (λ c κs. search picks)
-    (λ c. simp (c.byte-at4.ensures, c.before.byte-at3.ensures, c.before.before.byte-at2.ensures, c.before.before.before.byte_at.ensures)))
+    (λ c. simp (c.byte_at-4.ensures, c.byte_at-3.ensures, c.byte_at-2.ensures, c.byte_at.ensures)))

@@ -9,4 +9,4 @@ judge_spec =
     tie.close
     (tie.spec
     (λ c κs. search picks) (λ c κs. search picks) (λ c κs. search picks) (λ c κs. search picks)
-    (λ c. simp (c.verdict-on.ensures, c.before.rams-fit.ensures, c.before.before.is-ines.ensures, c.before.before.before.read-header.ensures) (load_in_order _ _ _ _)))
+    (λ c. simp (c.verdict_on.ensures, c.rams_fit.ensures, c.is_ines.ensures, c.read_header.ensures) (load_in_order _ _ _ _)))

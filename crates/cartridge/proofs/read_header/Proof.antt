@@ -12,4 +12,4 @@ read_header_spec =
     (λ c κs. search picks) (λ c κs. search picks) (λ c κs. search picks) (λ c κs. search picks) (λ c κs. search picks)
     (λ c κs. search picks) (λ c κs. search picks) (λ c κs. search picks) (λ c κs. search picks) (λ c κs. search picks)
     (λ c κs. search picks) (λ c κs. search picks)
-    (λ c. simp (c.byte-at12.ensures, c.before.byte-at11.ensures, c.before.before.byte-at10.ensures, c.before.before.before.byte-at9.ensures, c.before.before.before.before.byte-at8.ensures, c.before.before.before.before.before.byte-at7.ensures, c.before.before.before.before.before.before.byte-at6.ensures, c.before.before.before.before.before.before.before.byte-at5.ensures, c.before.before.before.before.before.before.before.before.byte-at4.ensures, c.before.before.before.before.before.before.before.before.before.byte-at3.ensures, c.before.before.before.before.before.before.before.before.before.before.byte-at2.ensures, c.before.before.before.before.before.before.before.before.before.before.before.byte_at.ensures)))
+    (λ c. simp (c.byte_at-12.ensures, c.byte_at-11.ensures, c.byte_at-10.ensures, c.byte_at-9.ensures, c.byte_at-8.ensures, c.byte_at-7.ensures, c.byte_at-6.ensures, c.byte_at-5.ensures, c.byte_at-4.ensures, c.byte_at-3.ensures, c.byte_at-2.ensures, c.byte_at.ensures)))

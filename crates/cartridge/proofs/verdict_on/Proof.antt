@@ -11,4 +11,4 @@ verdict_on_spec =
     (tie.spec
     (λ c κs. search picks) (λ c κs. search picks) (λ c κs. search picks) (λ c κs. search picks) (λ c. search picks)
     (λ c. search picks) (λ c. search picks) (λ c κs. search picks) (λ c κs. search picks) (λ c κs. search picks) (λ c κs. search picks) (λ c κs. search picks)
-    (λ c. simp (c.first_of.ensures, c.before.bad-prg.ensures, c.before.before.nes2-not-taken.ensures, c.before.before.before.is_special.ensures, c.before.before.before.before.no-powers.ensures, c.before.before.before.before.before.needed.ensures, c.before.before.before.before.before.before.chr-in.ensures, c.before.before.before.before.before.before.before.prg-in.ensures, c.before.before.before.before.before.before.before.before.mapper-in.ensures)))
+    (λ c. simp (c.first_of.ensures, c.bad_prg.ensures, c.nes2_not_taken.ensures, c.is_special.ensures, c.no_powers-counts.ensures, c.needed.ensures, c.chr_in-chr.ensures, c.prg_in-prg.ensures, c.mapper_in-mapper.ensures)))

@@ -17,8 +17,8 @@ returns c =
     record {
       reply = simp (← f, e, n, c.before.before.before.before.before.before.load-number.ensures, l.reply, m);
       state = simp (← f, e, n, c.before.before.keep.ensures, c.before.before.before.words_of.ensures, l.reply, m);
-      prg-ram = simp (← f, e, n, l.prg-ram, m);
-      chr-ram = simp (← f, e, n, l.chr-ram, m);
+      prg_ram = simp (← f, e, n, l.prg_ram, m);
+      chr_ram = simp (← f, e, n, l.chr_ram, m);
     }
 
 returns-2 : tie.Need-returns-2
@@ -30,8 +30,8 @@ returns-2 c =
     record {
       reply = simp (← f, e, n, c.refusal.ensures);
       state = simp (n, c.refusal.ensures);
-      prg-ram = simp (← f, e, n);
-      chr-ram = simp (← f, e, n);
+      prg_ram = simp (← f, e, n);
+      chr_ram = simp (← f, e, n);
     }
 
 returns-3 : tie.Need-returns-3
@@ -42,8 +42,8 @@ returns-3 c =
     record {
       reply = simp (← f, e, c.refusal2.ensures);
       state = simp c.refusal2.ensures;
-      prg-ram = simp (← f, e);
-      chr-ram = simp (← f, e);
+      prg_ram = simp (← f, e);
+      chr_ram = simp (← f, e);
     }
 
 pub biekkarul_load_spec : {M : Type 1} → statement M

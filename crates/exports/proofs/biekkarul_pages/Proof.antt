@@ -27,6 +27,6 @@ biekkarul_pages_spec =
     let o = c.before.before.before.before.before.pages-if.ensures in
     record {
       reply = simp (c.pages-number.ensures, o.reply, k, b, w) (number_told _);
-      read-pages = simp (o.read-pages, k, b, w);
-      write-pages = simp (o.write-pages, k, b, w);
+      read_pages = simp (o.read_pages, k, b, w);
+      write_pages = simp (o.write_pages, k, b, w);
     }))

@@ -23,7 +23,7 @@ biekkarul_write_moved_spec =
           record {
             reply = refl;
             state = simp (o.write.state, o.write.reply);
-            prg-ram = o.write.prg-ram;
-            chr-ram = o.write.chr-ram;
+            prg_ram = o.write.prg_ram;
+            chr_ram = o.write.chr_ram;
           };
     }))

@@ -44,8 +44,8 @@ write_in_spec =
           record {
             reply = simp (n, t.reply, k, b, w);
             state = simp (c.before.before.keep.ensures, c.before.before.before.after_write.ensures, n, d.before.before.before.before.mapper-in.ensures, t.reply, k, b, w) (write_kept x.state.now u x.value x.address (is_kept u && l) (and_left (is_kept u) l) x.prg.now x.chr.now);
-            prg-ram = simp (t.prg-ram, k, b, w);
-            chr-ram = simp (t.chr-ram, k, b, w);
+            prg_ram = simp (t.prg_ram, k, b, w);
+            chr_ram = simp (t.chr_ram, k, b, w);
           };
       parts = simp (c.before.before.before.before.before.moved.ensures, d.before.before.before.before.mapper-in.ensures, t.reply, k, b, w, named u);
     }))

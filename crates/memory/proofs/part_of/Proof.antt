@@ -14,4 +14,4 @@ part_of_spec =
     (λ c κs. search picks)
     (λ c. rw length-take (omega arith))
     (λ c. cc)
-    (λ c. sym (take_all c.before.before.before.args.size c.before.Tail-of.result.now (omega arith)) ∙ (cc)))
+    (λ c. sym (take_all c.args.size c.tail_of-rest.result.now (omega arith)) ∙ (cc)))

@@ -10,4 +10,4 @@ put_spec =
     tie.close
     (tie.spec
     (λ c. search picks) (λ c. search picks) (λ c. search picks)
-    (λ c. sym (set_out c.before.args.s.now c.before.args.i c.before.args.v c.if1.false)))
+    (λ c. sym (set_out c.args.s.now c.args.i c.args.v c.if-i-s.false)))

@@ -14,5 +14,5 @@ tail_of_spec =
     tie.close
     (tie.spec
     (λ c. search picks) (λ c. search picks) (λ c. search picks) (λ c. search picks)
-    (λ c. let a = c.before.before.args in take_all (length a.s.now - a.a) (drop a.a a.s.now) (rw length-drop (omega arith)))
-    (λ c. sym (drop_past c.before.before.args.a c.before.before.args.s.now (search picks))))
+    (λ c. let a = c.args in take_all (length a.s.now - a.a) (drop a.a a.s.now) (rw length-drop (omega arith)))
+    (λ c. sym (drop_past c.args.a c.args.s.now (search picks))))

@@ -13,5 +13,5 @@ pages_spec =
     (λ c. search picks)
     (λ c.
     let o = c.before.before.before.before.pages-if.ensures in
-    let j = c.before.before.before.before.before.before.before.in-range.ensures in
-    record { reply = simp (o.reply, j); read-pages = simp (o.read-pages, j); write-pages = simp (o.write-pages, j) }))
+    let j = c.before.before.before.before.before.before.before.is_in_range.ensures in
+    record { reply = simp (o.reply, j); read_pages = simp (o.read_pages, j); write_pages = simp (o.write_pages, j) }))

@@ -44,9 +44,9 @@ pages_if_spec =
     = sym (λ i. a.fits && d.before.before.has_room.ensures i && d.before.has-room2.ensures i) ∙ d.if1.true in
     record {
       reply = simp (t);
-      read-pages = simp (t, c.before.before.before.before.before.before.fill-reads.ensures);
-      write-pages = simp (t, c.before.before.fill-writes.ensures);
+      read_pages = simp (t, c.before.before.before.before.before.before.fill-reads.ensures);
+      write_pages = simp (t, c.before.before.fill-writes.ensures);
     })
     (λ c.
     let e = sym (λ i. c.before.before.before.before.before.args.fits && c.before.before.has_room.ensures i && c.before.has-room2.ensures i) ∙ c.if1.false in
-    record { reply = simp (e); read-pages = simp (e); write-pages = simp (e) }))
+    record { reply = simp (e); read_pages = simp (e); write_pages = simp (e) }))

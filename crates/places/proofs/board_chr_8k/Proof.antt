@@ -9,4 +9,4 @@ board_chr_8k_spec =
     tie.close
     (tie.spec
     (λ c κs. search picks) (λ c κs. search picks)
-    (λ c. simp (c.if-chr-ram.ensures, c.before.chr-8k.ensures) (lands_in_ram _ _ _)))
+    (λ c. simp (c.if_chr_ram.ensures, c.chr_8k.ensures) (lands_in_ram _ _ _)))

@@ -13,4 +13,4 @@ fixed_prg_spec =
     (tie.spec
     (λ c κs. search picks) (λ c κs. search picks)
     (λ c. search picks)
-    (λ c. simp (c.prg-16k.ensures, c.before.fixed-block.ensures, le-ltb c.before.before.before.args.address 0x8000 (omega arith))))
+    (λ c. simp (c.prg_16k.ensures, c.fixed_block.ensures, le-ltb c.args.address 0x8000 (omega arith))))

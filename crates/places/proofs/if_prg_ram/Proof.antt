@@ -10,5 +10,5 @@ if_prg_ram_spec =
     tie.close
     (tie.spec
     (λ c κs. search picks)
-    (λ c. simp (c.prg-ram.ensures, c.before.if1.true))
-    (λ c. simp c.if1.false))
+    (λ c. simp (c.prg_ram.ensures, c.if-cart.true))
+    (λ c. simp c.if-cart.false))

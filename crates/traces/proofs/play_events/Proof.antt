@@ -41,8 +41,8 @@ returns c =
     let e : l.i ≡ c.before.before.before.before.before.before.args.count = le_antisymm l.invariant.0 c.loop-test.false in
     record {
       says = rw e at l.invariant.2;
-      prg-ram = ap (λ (m : Moment). m.lent.prg) (rw e at l.invariant.1);
-      chr-ram = ap (λ (m : Moment). m.lent.chr) (rw e at l.invariant.1);
+      prg_ram = ap (λ (m : Moment). m.lent.prg) (rw e at l.invariant.1);
+      chr_ram = ap (λ (m : Moment). m.lent.chr) (rw e at l.invariant.1);
     }
 
 pub play_events_spec : {M : Type 1} → statement M

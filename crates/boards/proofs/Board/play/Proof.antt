@@ -13,5 +13,5 @@ play_spec =
     (λ c κs. search picks) (λ c. search picks) (λ c. search picks)
     (λ c. record { says = simp (c.before.before.before.before.event.given.1, c.read.ensures); moves = simp c.before.before.before.before.event.given.1 })
     (λ c. search picks) (λ c. search picks)
-    (λ c. record { says = simp (c.before.before.before.before.before.before.before.before.before.event2.given.1, c.before.before.before.before.before.write.ensures.reply); moves = simp (c.before.before.before.before.before.before.before.before.before.event2.given.1, c.before.before.before.before.before.write.ensures.reply, c.before.before.before.before.before.write.ensures.prg-ram, c.before.before.before.before.before.write.ensures.chr-ram) })
+    (λ c. record { says = simp (c.before.before.before.before.before.before.before.before.before.event2.given.1, c.before.before.before.before.before.write.ensures.reply); moves = simp (c.before.before.before.before.before.before.before.before.before.event2.given.1, c.before.before.before.before.before.write.ensures.reply, c.before.before.before.before.before.write.ensures.prg_ram, c.before.before.before.before.before.write.ensures.chr_ram) })
     (λ c. record { says = simp (c.before.before.enum_told.given.1, c.before.clock.ensures); moves = simp (c.before.before.enum_told.given.1, c.before.clock.ensures) }))

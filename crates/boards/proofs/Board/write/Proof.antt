@@ -14,6 +14,6 @@ write_spec =
     let l = c.before.before.before.before.before.before.before.is-loaded.ensures in
     record {
       reply = simp (w.reply, l);
-      prg-ram = simp (w.prg-ram, l);
-      chr-ram = simp (w.chr-ram, l);
+      prg_ram = simp (w.prg_ram, l);
+      chr_ram = simp (w.chr_ram, l);
     }))

@@ -9,4 +9,4 @@ write_if_spec =
     (tie.spec
     (λ c κs. search rules) (λ c κs. search rules) (λ c κs. search rules) (λ c κs. search rules) (λ c κs. search rules)
     (λ c. search rules) (λ c. search rules)
-    (λ c. record { reply = cc; prg-ram = cc; chr-ram = cc }))
+    (λ c. record { reply = cc; prg_ram = cc; chr_ram = cc }))

@@ -10,4 +10,4 @@ chr_rom_spec =
     tie.close
     (tie.spec
     (λ c κs. search picks) (λ c. search picks) (λ c. search picks) (λ c κs. search picks)
-    (λ c. simp (c.Tail-of.ensures, c.before.prg-total.ensures)))
+    (λ c. simp (c.tail_of.ensures, c.prg_total-start.ensures)))

@@ -11,4 +11,4 @@ could_load_spec =
     (tie.spec
     (λ c κs. search picks) (λ c κs. search picks) (λ c. search picks) (λ c κs. search picks) (λ c. search picks)
     (λ c. search picks) (λ c κs. search picks) (λ c κs. search picks) (λ c. search picks) (λ c κs. search picks) (λ c κs. search picks)
-    (λ c. simp (c.prg-ram-fits.ensures, c.before.is-headers.ensures, c.before.before.before.needed.ensures, c.before.before.before.before.before.before.no-powers.ensures, c.before.before.before.before.before.before.before.before.before.bad-prg.ensures, c.before.before.before.before.before.before.before.before.before.before.number.ensures, c.before.before.before.before.before.before.before.before.before.before.before.counts-end.ensures)))
+    (λ c. simp (c.prg_ram_fits.ensures, c.is_headers.ensures, c.needed.ensures, c.no_powers.ensures, c.bad_prg.ensures, c.number.ensures, c.counts_end-end.ensures)))

@@ -6,4 +6,4 @@ use Rattle.cartridge.proofs.Cartridge.prg_rom.Tie as tie
 
 pub prg_rom_spec : {M : Type 1} → statement M
 unfolding prg_rom
-prg_rom_spec = tie.close (tie.spec (λ c. search picks) (λ c κs. search picks) (λ c. simp c.Tail-of.ensures))
+prg_rom_spec = tie.close (tie.spec (λ c. search picks) (λ c κs. search picks) (λ c. simp c.tail_of.ensures))

@@ -7,4 +7,4 @@ use Rattle.cartridge.proofs.Header.has_prg_ram.Tie as tie
 
 pub has_prg_ram_spec : {M : Type 1} → statement M
 unfolding has_prg_ram
-has_prg_ram_spec = tie.close (tie.spec (λ c κs. search picks) (λ c. simp (sym c.before.before.is-extended.ensures ∙ c.before.if1.true)) (λ c. simp (sym c.before.is-extended.ensures ∙ c.if1.false)))
+has_prg_ram_spec = tie.close (tie.spec (λ c κs. search picks) (λ c. simp (sym c.is_extended.ensures ∙ c.if-is_extended.true)) (λ c. simp (sym c.is_extended.ensures ∙ c.if-is_extended.false)))

@@ -9,4 +9,4 @@ longer_spec =
     tie.close
     (tie.spec
     (λ c κs. search picks) (λ c. search picks) (λ c. search picks)
-    (λ c. simp (sym c.before.is-extended.ensures ∙ c.if1.true)) (λ c. simp (sym c.before.is-extended.ensures ∙ c.if1.false)))
+    (λ c. simp (sym c.is_extended.ensures ∙ c.if-is_extended.true)) (λ c. simp (sym c.is_extended.ensures ∙ c.if-is_extended.false)))

@@ -6,4 +6,4 @@ use Rattle.cartridge.proofs.Header.mapper_in.Tie as tie
 
 pub mapper_in_spec : {M : Type 1} → statement M
 unfolding mapper_in
-mapper_in_spec = tie.close (tie.spec (λ c κs. search picks) (λ c κs. search picks) (λ c. simp (c.longer.ensures, c.before.before.mapper.ensures)))
+mapper_in_spec = tie.close (tie.spec (λ c κs. search picks) (λ c κs. search picks) (λ c. simp (c.longer.ensures, c.mapper.ensures)))

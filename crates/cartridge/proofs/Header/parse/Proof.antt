@@ -9,4 +9,4 @@ parse_spec =
     tie.close
     (tie.spec
     (λ c κs. search picks) (λ c κs. search picks) (λ c κs. search picks)
-    (λ c. simp (c.header-answer.ensures, c.before.read-header.ensures, c.before.before.is-ines.ensures) (header_in_order _)))
+    (λ c. simp (c.header_answer.ensures, c.read_header.ensures, c.is_ines.ensures) (header_in_order _)))

@@ -10,4 +10,4 @@ is_spec =
     tie.close
     (tie.spec
     (λ c κs. search picks) (λ c κs. search picks)
-    (λ c. simp (c.number2.ensures, c.before.number.ensures)))
+    (λ c. simp (c.number-2.ensures, c.number.ensures)))

@@ -9,4 +9,4 @@ same_spec =
     tie.close
     (tie.spec
     (λ c κs. search picks) (λ c κs. search picks)
-    (λ c. simp (c.letter2.ensures, c.before.letter.ensures) (by_letters c.before.before.args.self c.before.before.args.other)))
+    (λ c. simp (c.letter-2.ensures, c.letter.ensures) (by_letters c.args.self c.args.other)))
