@@ -78,6 +78,7 @@ impl Cnrom {
         }
     }
 
+    #[tactic(auto, unfolding(crate::specs::Cnrom::read_window_in))]
     pub fn read_landing(self, cart: Cartridge, address: u16) -> Landing
         ensures { result ≡ lands_in cart (read_window self cart address) address }
     {
@@ -88,6 +89,7 @@ impl Cnrom {
         }
     }
 
+    #[tactic(auto, unfolding(crate::specs::Cnrom::write_window_in))]
     pub fn write_landing(self, cart: Cartridge, address: u16) -> Landing
         ensures { result ≡ lands_in cart (write_window self cart address) address }
     {

@@ -126,6 +126,7 @@ impl Serial {
 }
 
 impl Move {
+    #[tactic(auto, unfolding(crate::specs::Write::applied))]
     pub fn applied(self, mode: Mode, mmc1: Mmc1) -> Mmc1
         ensures { result ≡ applied mode self mmc1 }
     {
@@ -178,6 +179,7 @@ impl Regs {
     }
 
     // The Rust's switch_lower_chr_bank halves in 8 KB mode; the real board stores every bit.
+    #[tactic(auto, unfolding(crate::specs::Write::stored_chr0))]
     fn stored_chr0(self, mode: Mode, bits: u8) -> u8
         ensures { result ≡ stored_chr0 mode self.chrmode bits }
     {
@@ -188,6 +190,7 @@ impl Regs {
     }
 
     // Its switch_upper_chr_bank leaves the register alone in 8 KB mode.
+    #[tactic(auto, unfolding(crate::specs::Write::stored_chr1))]
     fn stored_chr1(self, mode: Mode, bits: u8) -> u8
         ensures { result ≡ stored_chr1 mode self.chrmode self.chr1 bits }
     {
@@ -224,6 +227,7 @@ impl Regs {
     }
 
     // A write with bit 7 sets PRG mode 3 on the real board, and in the Rust no register.
+    #[tactic(auto, unfolding(crate::specs::Write::reset))]
     fn reset(mut self, mode: Mode) -> Regs
         ensures { result ≡ reset mode self }
     {
@@ -292,6 +296,7 @@ impl Regs {
 }
 
 // The first of the two 16 KB banks of PRG modes 0 and 1.
+#[tactic(auto, unfolding(crate::specs::Read::prg_pair))]
 fn prg_pair(mode: Mode, p: u8) -> u8
     ensures { result ≡ prg_pair mode p }
 {
@@ -302,6 +307,7 @@ fn prg_pair(mode: Mode, p: u8) -> u8
 }
 
 // The first of the two 4 KB banks of 8 KB CHR mode. House mode halved it when it was stored.
+#[tactic(auto, unfolding(crate::specs::Read::chr_pair))]
 fn chr_pair(mode: Mode, chr0: u8) -> u8
     ensures { result ≡ chr_pair mode chr0 }
 {
@@ -369,6 +375,7 @@ impl Mmc1 {
             & (r.prg == 0)
     }
 
+    #[tactic(auto, unfolding(crate::specs::Range::fits))]
     pub fn fits(self) -> bool
         ensures { result ≡ fits self }
     {
@@ -442,6 +449,7 @@ impl Mmc1 {
     }
 
     // At 8000-FFFF no byte is stored: the registers are there.
+    #[tactic(auto, unfolding(places::specs::Windows::lands_in, crate::specs::Read::write_window_in, crate::specs::Read::ppu_write_in, places::specs::Windows::in_windows))]
     pub fn write_landing(self, cart: Cartridge, address: u16) -> Landing
         ensures { result ≡ lands_in cart (write_window self cart address) address }
     {

@@ -132,6 +132,7 @@ impl Irq {
         self.set_to(next, self.enabled & (next == 0))
     }
 
+    #[tactic(auto, unfolding(crate::specs::Clock::clock_in))]
     pub fn clock(self, mode: Mode) -> Clocked
         ensures { result ≡ clock_in mode self }
     {
@@ -156,6 +157,7 @@ impl Irq {
 }
 
 // The real board's line stays up once it is raised; an even write to E000-FFFF lowers it.
+#[tactic(auto, unfolding(crate::specs::Clock::line_after))]
 fn line_after(mode: Mode, line: bool, raised: bool) -> bool
     ensures { result ≡ line_after mode line raised }
 {
@@ -166,6 +168,7 @@ fn line_after(mode: Mode, line: bool, raised: bool) -> bool
 }
 
 // The Rust answers what the unit does at this clock, the real board the level of its line.
+#[tactic(auto, unfolding(crate::specs::Clock::clock_answer))]
 fn clock_answer(mode: Mode, level: bool, raised: bool) -> bool
     ensures { result ≡ clock_answer mode level raised }
 {
@@ -175,6 +178,7 @@ fn clock_answer(mode: Mode, level: bool, raised: bool) -> bool
     }
 }
 
+#[tactic(auto, unfolding(crate::specs::Range::line_fits))]
 fn line_fits(mode: Mode, line: bool) -> bool
     ensures { result ≡ line_fits mode line }
 {
@@ -191,6 +195,7 @@ impl RamMarks {
         self.enabled & !self.denied
     }
 
+    #[tactic(auto, unfolding(crate::specs::Range::ram_fits))]
     fn fits(self, mode: Mode) -> bool
         ensures { result ≡ ram_fits mode self }
     {
@@ -201,6 +206,7 @@ impl RamMarks {
     }
 
     // The Rust leaves protection out.
+    #[tactic(auto, unfolding(crate::specs::Ram::marks_after))]
     fn after(self, mode: Mode, value: u8) -> RamMarks
         ensures { result ≡ marks_after mode self value }
     {
@@ -320,6 +326,7 @@ pub fn move_of(value: u8, address: u16) -> Move
 }
 
 impl Move {
+    #[tactic(auto, unfolding(crate::specs::Write::applied, crate::specs::Clock::with_irq))]
     pub fn applied(self, mode: Mode, mut mmc3: Mmc3) -> Mmc3
         ensures { result ≡ applied mode self mmc3 }
     {
@@ -409,6 +416,7 @@ impl Mmc3 {
             & ram.is_start()
     }
 
+    #[tactic(auto, unfolding(crate::specs::Range::fits, crate::specs::Read::register))]
     pub fn fits(self, mode: Mode) -> bool
         ensures { result ≡ fits mode self }
     {
@@ -419,6 +427,7 @@ impl Mmc3 {
         modes & banks & line_fits(mode, self.line) & ram.fits(mode)
     }
 
+    #[tactic(auto, unfolding(crate::specs::Read::register))]
     fn register(self, k: u8) -> u8
         ensures { result ≡ register self k }
     {
@@ -504,6 +513,7 @@ impl Mmc3 {
     }
 
     // At 8000-FFFF no byte is stored: the registers are there.
+    #[tactic(auto, unfolding(places::specs::Windows::lands_in, crate::specs::Read::write_window_in, crate::specs::Read::ppu_write_in, crate::specs::Read::rom_write_in, places::specs::Windows::in_windows))]
     pub fn write_landing(self, cart: Cartridge, address: u16) -> Landing
         ensures { result ≡ lands_in cart (write_window self cart address) address }
     {

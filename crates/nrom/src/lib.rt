@@ -19,6 +19,7 @@ pub fn read_landing(cart: Cartridge, address: u16) -> Landing
     }
 }
 
+#[tactic(auto, unfolding(crate::specs::Nrom::write_window_in))]
 pub fn write_landing(cart: Cartridge, address: u16) -> Landing
     ensures { result ≡ lands_in cart (write_window cart address) address }
 {

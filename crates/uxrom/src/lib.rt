@@ -33,6 +33,7 @@ impl Uxrom {
         }
     }
 
+    #[tactic(auto, unfolding(crate::specs::Uxrom::write_window_in))]
     pub fn write_landing(self, cart: Cartridge, address: u16) -> Landing
         ensures { result ≡ lands_in cart (write_window self cart address) address }
     {

@@ -8,4 +8,4 @@ prg_ram_byte_spec =
     tie.close
     (tie.spec
     (λ c. search picks) (λ c κs. search picks)
-    (λ c. simp (c.byte_at.ensures, c.before.if1.true)) (λ c. simp c.if1.false))
+    (λ c. simp (c.byte_at.ensures, c.if-cart.true)) (λ c. simp c.if-cart.false))

@@ -13,5 +13,5 @@ choice_spec =
     tie.close
     (tie.spec
     (λ c. search picks) (λ c. search picks) (λ c. search picks) (λ c. search picks)
-    (λ c. sym (past_slots c.before.before.args.mode c.before.before.args.slot (search rules)))
-    (λ c. sym (past_modes c.before.args.mode c.before.args.slot (search rules))))
+    (λ c. sym (past_slots c.args.mode c.args.slot (search rules)))
+    (λ c. sym (past_modes c.args.mode c.args.slot (search rules))))

@@ -10,4 +10,4 @@ lower_chr_bank_spec =
     tie.close
     (tie.spec
     (λ c κs. search picks) (λ c κs. search picks) (λ c κs. search picks) (λ c κs. search picks) (λ c κs. search picks)
-    (λ c. simp (c.bank-of.ensures, c.before.chr-data.ensures, c.before.before.start.ensures, c.before.before.before.chr-total.ensures, c.before.before.before.before.lower-chr.ensures)))
+    (λ c. simp (c.bank_of.ensures, c.chr_data.ensures, c.start-start.ensures, c.chr_total.ensures, c.lower_chr.ensures)))

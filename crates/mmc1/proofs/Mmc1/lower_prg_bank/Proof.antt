@@ -10,4 +10,4 @@ lower_prg_bank_spec =
     tie.close
     (tie.spec
     (λ c κs. search picks) (λ c κs. search picks) (λ c κs. search picks) (λ c κs. search picks) (λ c κs. search picks)
-    (λ c. simp (c.bank-of.ensures, c.before.prg-rom.ensures, c.before.before.start.ensures, c.before.before.before.prg-total.ensures, c.before.before.before.before.lower-prg.ensures)))
+    (λ c. simp (c.bank_of.ensures, c.prg_rom.ensures, c.start-start.ensures, c.prg_total.ensures, c.lower_prg.ensures)))

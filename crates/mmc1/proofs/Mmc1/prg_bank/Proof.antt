@@ -10,4 +10,4 @@ prg_bank_spec =
     tie.close
     (tie.spec
     (λ c κs. search picks) (λ c κs. search picks) (λ c κs. search picks) (λ c. search picks)
-    (λ c. search (picks, c.upper-prg.ensures, c.before.last-prg.ensures)))
+    (λ c. search (picks, c.upper_prg.ensures, c.last_prg.ensures)))

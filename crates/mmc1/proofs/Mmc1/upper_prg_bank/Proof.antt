@@ -11,4 +11,4 @@ upper_prg_bank_spec =
     (tie.spec
     (λ c κs. search picks) (λ c κs. search picks) (λ c κs. search picks) (λ c κs. search picks) (λ c κs. search picks)
     (λ c κs. search picks)
-    (λ c. simp (c.bank-of.ensures, c.before.start.ensures, c.before.before.prg-total.ensures, c.before.before.before.prg-rom.ensures, c.before.before.before.before.upper-prg.ensures, c.before.before.before.before.before.last-prg.ensures)))
+    (λ c. simp (c.bank_of.ensures, c.start.ensures, c.prg_total.ensures, c.prg_rom.ensures, c.upper_prg-bank.ensures, c.last_prg.ensures)))

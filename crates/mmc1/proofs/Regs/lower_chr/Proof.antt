@@ -11,5 +11,5 @@ lower_chr_spec =
     tie.close
     (tie.spec
     (λ c κs. search picks) (λ c κs. search picks) (λ c. search picks) (λ c. search picks)
-    (λ c. simp (c.chr-pair.ensures, sym c.before.before.switches-8kb.ensures ∙ c.before.if1.true))
-    (λ c. simp (sym c.before.before.switches-8kb.ensures ∙ c.before.if1.false)))
+    (λ c. simp (c.chr_pair.ensures, sym c.switches_8kb.ensures ∙ c.if-switches_8kb.true))
+    (λ c. simp (sym c.switches_8kb.ensures ∙ c.if-switches_8kb.false)))

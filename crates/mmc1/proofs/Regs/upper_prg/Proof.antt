@@ -11,6 +11,6 @@ upper_prg_spec =
     tie.close
     (tie.spec
     (λ c κs. search picks) (λ c κs. search picks) (λ c. search picks) (λ c. search picks) (λ c. search picks)
-    (λ c. simp (c.prg-pair.ensures, sym c.before.before.switches-32kb.ensures ∙ c.before.if1.true))
-    (λ c. search (picks, sym c.before.before.before.before.switches-32kb.ensures ∙ c.before.before.before.if1.false))
-    (λ c. search (picks, sym c.before.before.before.switches-32kb.ensures ∙ c.before.before.if1.false)))
+    (λ c. simp (c.prg_pair.ensures, sym c.switches_32kb.ensures ∙ c.if-switches_32kb.true))
+    (λ c. search (picks, sym c.switches_32kb.ensures ∙ c.if-switches_32kb.false))
+    (λ c. search (picks, sym c.switches_32kb.ensures ∙ c.if-switches_32kb.false)))

@@ -7,4 +7,4 @@ use Rattle.mmc1.proofs.Serial.fits.Tie as tie
 
 pub fits_spec : {M : Type 1} → statement M
 unfolding serial_fits
-fits_spec = tie.close (tie.spec (λ c. search picks) (λ c. let s = c.before.before.before.before.args.self in moved_up s.count s.value))
+fits_spec = tie.close (tie.spec (λ c. search picks) (λ c. let s = c.args.self in moved_up s.count s.value))

@@ -11,6 +11,6 @@ move_of_spec =
     tie.close
     (tie.spec
     (λ c κs. search picks) (λ c κs. search picks) (λ c. search picks) (λ c κs. search picks) (λ c. search picks)
-    (λ c. search (picks, sym c.before.is_Signed.ensures ∙ c.if2.true))
-    (λ c. search (picks, c.before.before.before.before.shifted.ensures, sym c.before.before.is_Signed.ensures ∙ c.before.if2.false))
-    (λ c. search (picks, c.register-at.ensures, c.before.before.before.before.before.shifted.ensures, sym c.before.before.before.is_Signed.ensures ∙ c.before.before.if2.false)))
+    (λ c. search (picks, sym c.is_signed.ensures ∙ c.if-is_signed.true))
+    (λ c. search (picks, c.shifted-shifted.ensures, sym c.is_signed.ensures ∙ c.if-is_signed.false))
+    (λ c. search (picks, c.register_at.ensures, c.shifted-shifted.ensures, sym c.is_signed.ensures ∙ c.if-is_signed.false)))

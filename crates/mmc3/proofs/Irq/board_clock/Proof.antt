@@ -10,4 +10,4 @@ board_clock_spec =
     tie.close
     (tie.spec
     (λ c κs. search picks) (λ c κs. search picks)
-    (λ c. simp (c.set_to.ensures, c.before.before.next-counter.ensures)))
+    (λ c. simp (c.set_to.ensures, c.next_counter-next.ensures)))

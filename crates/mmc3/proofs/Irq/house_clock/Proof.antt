@@ -10,7 +10,7 @@ house_clock_spec =
     tie.close
     (tie.spec
     (λ c κs. search picks)
-    (λ c. search (picks, c.set_to.ensures, c.before.if1.true))
+    (λ c. search (picks, c.set_to.ensures, c.if-self.true))
     (λ c κs. search picks) (λ c. search picks) (λ c κs. search picks)
-    (λ c. search (picks, c.set-to2.ensures, c.before.before.before.if1.false))
-    (λ c. search (picks, c.set-to3.ensures, c.before.before.before.before.if1.false)))
+    (λ c. search (picks, c.set_to-then-self-eq0.ensures, c.if-self.false))
+    (λ c. search (picks, c.set_to-else-self-eq0.ensures, c.if-self.false)))

@@ -9,7 +9,7 @@ unfolding next_counter
 next_counter_spec =
     tie.close
     (tie.spec
-    (λ c. search (picks, c.if1.true))
+    (λ c. search (picks, c.if-self.true))
     (λ c. search picks)
-    (λ c. search (picks, c.before.before.if1.false))
-    (λ c. search (picks, c.before.before.before.if1.false)))
+    (λ c. search (picks, c.if-self.false))
+    (λ c. search (picks, c.if-self.false)))

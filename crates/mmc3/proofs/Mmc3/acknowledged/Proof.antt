@@ -11,5 +11,5 @@ acknowledged_spec =
     tie.close
     (tie.spec
     (λ c κs. search picks)
-    (λ c. simp (← c.before.is-pending.ensures, c.if1.true))
-    (λ c. simp (← c.before.is-pending.ensures, c.if1.false)))
+    (λ c. simp (← c.is_pending.ensures, c.if-pending.true))
+    (λ c. simp (← c.is_pending.ensures, c.if-pending.false)))

@@ -15,5 +15,5 @@ bank_data_spec =
     tie.close
     (tie.spec
     (λ c κs. search picks) (λ c. search picks) (λ c. search picks)
-    (λ c m. simp c.before.before.data-bits.ensures)
-    (λ c mode. let m = c.before.before.before.args.self in let e : length m.regs ≡ 8 = search rules in rw (set_out m.regs m.select (data_bits m.select c.before.before.before.args.value) (omega arith)) refl))
+    (λ c m. simp c.data_bits-kept.ensures)
+    (λ c mode. let m = c.args.self in let e : length m.regs ≡ 8 = search rules in rw (set_out m.regs m.select (data_bits m.select c.args.value) (omega arith)) refl))

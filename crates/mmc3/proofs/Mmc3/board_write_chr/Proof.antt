@@ -9,4 +9,4 @@ board_write_chr_spec =
     tie.close
     (tie.spec
     (λ c κs. search picks) (λ c κs. search picks)
-    (λ c. simp (c.if-chr-ram.ensures, c.before.read-chr.ensures) (lands_in_ram _ _ _)))
+    (λ c. simp (c.if_chr_ram.ensures, c.read_chr.ensures) (lands_in_ram _ _ _)))

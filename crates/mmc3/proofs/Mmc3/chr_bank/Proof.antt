@@ -9,4 +9,4 @@ chr_bank_spec =
     tie.close
     (tie.spec
     (λ c κs. search picks) (λ c κs. search picks) (λ c. search picks) (λ c. search picks) (λ c. search picks)
-    (λ c. simp (c.register.ensures, c.before.choice.ensures) (bank_by_number _ _)))
+    (λ c. simp (c.register.ensures, c.choice-choice.ensures) (bank_by_number _ _)))

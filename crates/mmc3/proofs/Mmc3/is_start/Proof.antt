@@ -12,4 +12,4 @@ is_start_spec =
     (tie.spec
     (λ c. search picks) (λ c. search picks) (λ c. search picks) (λ c. search picks) (λ c. search picks)
     (λ c. search picks) (λ c. search picks) (λ c. search picks) (λ c κs. search picks) (λ c κs. search picks)
-    (λ c. simp (c.is-start2.ensures, c.before.is-start.ensures)))
+    (λ c. simp (c.is_start-2.ensures, c.is_start.ensures)))

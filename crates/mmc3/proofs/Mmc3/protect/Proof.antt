@@ -6,4 +6,4 @@ use Rattle.mmc3.proofs.Mmc3.protect.Tie as tie
 
 pub protect_spec : {M : Type 1} → statement M
 unfolding applied
-protect_spec = tie.close (tie.spec (λ c κs. search picks) (λ c. simp c.after.ensures))
+protect_spec = tie.close (tie.spec (λ c κs. search picks) (λ c. simp c.after-next.ensures))

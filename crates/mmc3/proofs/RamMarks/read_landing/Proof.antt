@@ -11,5 +11,5 @@ read_landing_spec =
     tie.close
     (tie.spec
     (λ c κs. search picks)
-    (λ c. simp (c.if-prg-ram.ensures, c.before.if1.true))
-    (λ c. simp c.if1.false))
+    (λ c. simp (c.if_prg_ram.ensures, c.if-self.true))
+    (λ c. simp c.if-self.false))

@@ -12,4 +12,4 @@ read_landing_spec =
     (tie.spec
     (λ c κs. search picks) (λ c. search picks) (λ c κs. search picks) (λ c κs. search picks) (λ c κs. search picks)
     (λ c. search picks) (λ c. search picks) (λ c. search picks)
-    (λ c. search (picks, c.prg-16k2.ensures, c.before.last-prg.ensures)))
+    (λ c. search (picks, c.prg_16k-in-49152-to-65535.ensures, c.last_prg.ensures)))
