@@ -140,6 +140,7 @@ impl Registers {
     }
 
     // Each part is in its range where it is this board's, else at its start.
+    #[tactic(auto, unfolding(crate::specs::Registers::fits))]
     pub fn fits(self, mapper: MapperType, mode: Mode) -> bool
         ensures { result ≡ fits mapper mode self }
     {
@@ -162,6 +163,7 @@ impl Registers {
         }
     }
 
+    #[tactic(auto, unfolding(crate::specs::Registers::moved))]
     pub fn moved(mut self, mapper: MapperType, mode: Mode, value: u8, address: u16) -> Moved
         ensures { result ≡ moved mapper mode self value address }
     {
@@ -247,6 +249,7 @@ pub fn no_board() -> Board
     })
 }
 
+#[tactic(auto, unfolding(crate::specs::Start::loaded_board))]
 fn loaded_board(loaded: cartridge::Loaded) -> Loaded
     ensures { result ≡ loaded_board loaded }
 {
@@ -359,6 +362,7 @@ pub fn screens_fit(cart: Cartridge, now: Mirroring) -> bool
 
 impl Board {
     // Refusal 10 is given where this fails.
+    #[tactic(auto, unfolding(crate::specs::Range::in_range, crate::specs::Range::mirroring_fits))]
     pub fn in_range(self) -> bool
         ensures { result ≡ in_range self }
     {
@@ -377,6 +381,7 @@ impl Board {
         self.in_range() & (length == cart.length)
     }
 
+    #[tactic(auto, unfolding(crate::specs::Read::read_landing, crate::specs::Read::read_window_on))]
     pub fn read_landing(self, address: u16) -> Landing
         ensures { result ≡ read_landing self address }
     {
@@ -396,6 +401,7 @@ impl Board {
         }
     }
 
+    #[tactic(auto, unfolding(crate::specs::Write::write_landing, crate::specs::Write::write_window_on))]
     pub fn write_landing(self, address: u16) -> Landing
         ensures { result ≡ write_landing self address }
     {
@@ -438,6 +444,7 @@ impl Board {
     }
 
     // What a notice compares with: the header's in house mode, the current one in board mode.
+    #[tactic(auto, unfolding(crate::specs::Write::against_in))]
     fn against(self) -> Mirroring
         ensures { result ≡ against self }
     {
@@ -478,6 +485,7 @@ impl Board {
     }
 
     // A refused write hands the board back as it came.
+    #[tactic(auto, unfolding(crate::specs::Write::written_as))]
     fn written_as(self, landing: Landing, value: u8, address: u16) -> Written
         ensures { result ≡ written_as self landing value address }
     {
@@ -579,6 +587,7 @@ impl Board {
     }
 
     // Any of the three calls above, as a run makes one after another.
+    #[tactic(auto, unfolding(crate::specs::Runs::next, crate::specs::Runs::answer, crate::specs::Runs::left, crate::specs::Runs::stepped))]
     pub fn play(self, event: Event, image: &[u8], prg: &mut [u8], chr: &mut [u8]) -> Played
         ensures { PlayOwes (moment self (lent image.now prg.old chr.old)) event result prg.new chr.new }
     {

@@ -8,4 +8,4 @@ unfolding guarded
 guarded_spec =
     tie.close
     (tie.spec
-    (λ c. simp (c.before.if1.true, c.if2.true)) (λ c. simp (c.before.if1.true, c.if2.false)) (λ c. simp c.if1.false))
+    (λ c. simp (c.if-rams.true, c.if-state.true)) (λ c. simp (c.if-rams.true, c.if-state.false)) (λ c. simp c.if-rams.false))

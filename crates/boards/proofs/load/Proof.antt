@@ -8,4 +8,4 @@ load_spec =
     tie.close
     (tie.spec
     (λ c κs. search rules) (λ c κs. search rules) (λ c. search rules) (λ c. search rules)
-    (λ c. record { reply = cc; prg_ram = c.before.before.before.before.before.load.ensures.prg_ram; chr_ram = c.before.before.before.before.before.load.ensures.chr_ram }))
+    (λ c. record { reply = cc; prg_ram = c.load.ensures.prg_ram; chr_ram = c.load.ensures.chr_ram }))

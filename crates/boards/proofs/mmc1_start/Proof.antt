@@ -11,5 +11,5 @@ mmc1_start_spec =
     tie.close
     (tie.spec
     (λ c κs. search picks) (λ c κs. search picks) (λ c κs. search picks)
-    (λ c. simp (c.new.ensures, sym c.before.before.is.ensures ∙ c.before.if1.true))
-    (λ c. simp (c.unused.ensures, sym c.before.before.is.ensures ∙ c.before.if1.false)))
+    (λ c. simp (c.new.ensures, sym c.is.ensures ∙ c.if-is.true))
+    (λ c. simp (c.unused.ensures, sym c.is.ensures ∙ c.if-is.false)))

@@ -11,5 +11,5 @@ part_fits_spec =
     tie.close
     (tie.spec
     (λ c κs. search picks)
-    (λ c. simp (sym c.before.is.ensures ∙ c.if1.true))
-    (λ c. simp (sym c.before.is.ensures ∙ c.if1.false)))
+    (λ c. simp (sym c.is.ensures ∙ c.if-is.true))
+    (λ c. simp (sym c.is.ensures ∙ c.if-is.false)))

@@ -11,6 +11,6 @@ turned_fit_spec =
     tie.close
     (tie.spec
     (λ c κs. search picks) (λ c κs. search picks)
-    (λ c. simp (sym c.before.is.ensures ∙ c.if1.true))
-    (λ c. simp (sym c.before.is2.ensures ∙ c.if2.true, sym c.before.before.before.is.ensures ∙ c.before.before.if1.false))
-    (λ c. simp (sym c.before.is2.ensures ∙ c.if2.false, sym c.before.before.before.is.ensures ∙ c.before.before.if1.false)))
+    (λ c. simp (sym c.is.ensures ∙ c.if-is.true))
+    (λ c. simp (sym c.is-else-is.ensures ∙ c.if-is-2.true, sym c.is.ensures ∙ c.if-is.false))
+    (λ c. simp (sym c.is-else-is.ensures ∙ c.if-is-2.false, sym c.is.ensures ∙ c.if-is.false)))

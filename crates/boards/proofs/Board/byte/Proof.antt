@@ -13,6 +13,6 @@ byte_spec =
     tie.close
     (tie.spec
     (λ c κs. search picks) (λ c κs. search picks)
-    (λ c. simp (c.read8.ensures, is_this _ Mmc1 (sym c.before.before.is.ensures ∙ c.before.if1.true)))
+    (λ c. simp (c.read8.ensures, is_this _ Mmc1 (sym c.is.ensures ∙ c.if-is.true)))
     (λ c κs. search picks)
-    (λ c. simp (c.byte_at.ensures, c.before.before.before.before.before.before.before.before.before.requires)))
+    (λ c. simp (c.byte_at.ensures, c.requires)))

@@ -6,4 +6,4 @@ use Rattle.boards.proofs.Board.clock.Tie as tie
 
 pub clock_spec : {M : Type 1} → statement M
 unfolding clock
-clock_spec = tie.close (tie.spec (λ c κs. search picks) (λ c κs. search picks) (λ c. simp (c.clock-if.ensures, c.before.is_in_range.ensures)))
+clock_spec = tie.close (tie.spec (λ c κs. search picks) (λ c κs. search picks) (λ c. simp (c.clock_if.ensures, c.in_range.ensures)))

@@ -5,4 +5,4 @@ use Rattle.boards.proofs.Board.clock_if.Tie as tie
 
 pub clock_if_spec : {M : Type 1} → statement M
 clock_if_spec =
-    tie.close (tie.spec (λ c κs. search picks) (λ c. simp (c.before.if1.true, c.accepted-clock.ensures)) (λ c. simp c.if1.false))
+    tie.close (tie.spec (λ c κs. search picks) (λ c. simp (c.if-fits.true, c.accepted_clock.ensures)) (λ c. simp c.if-fits.false))

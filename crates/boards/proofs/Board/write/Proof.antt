@@ -10,8 +10,8 @@ write_spec =
     tie.close
     (tie.spec (λ c κs. search rules) (λ c κs. search rules) (λ c. search rules) (λ c. search rules)
     (λ c.
-    let w = c.before.before.before.before.write-if.ensures in
-    let l = c.before.before.before.before.before.before.before.is-loaded.ensures in
+    let w = c.write_if.ensures in
+    let l = c.is_loaded.ensures in
     record {
       reply = simp (w.reply, l);
       prg_ram = simp (w.prg_ram, l);

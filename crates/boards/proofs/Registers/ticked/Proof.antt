@@ -11,5 +11,5 @@ ticked_spec =
     tie.close
     (tie.spec
     (λ c κs. search picks) (λ c κs. search picks)
-    (λ c. simp (c.before.clock.ensures, sym c.before.before.before.is.ensures ∙ c.before.before.if1.true))
-    (λ c. simp (sym c.before.is.ensures ∙ c.if1.false)))
+    (λ c. simp (c.clock-clocked.ensures, sym c.is.ensures ∙ c.if-is.true))
+    (λ c. simp (sym c.is.ensures ∙ c.if-is.false)))
