@@ -58,6 +58,7 @@ fn refused_page(why: Refusal) -> u32
     0x4000_0000 + (why.number() as u32)
 }
 
+#[tactic(auto, unfolding(crate::specs::Pages::read_from))]
 fn read_from(cart: Cartridge, landing: Landing) -> u32
     ensures { result ≡ read_from cart landing }
 {
@@ -67,6 +68,7 @@ fn read_from(cart: Cartridge, landing: Landing) -> u32
     }
 }
 
+#[tactic(auto, unfolding(crate::specs::Pages::written_to))]
 fn written_to(landing: Landing) -> u32
     ensures { result ≡ written_to landing }
 {
@@ -133,6 +135,7 @@ fn has_room(first: u8, n: usize) -> bool
 }
 
 // Of a board that has been judged: `fits` is whether it may be served.
+#[tactic(auto, unfolding(crate::specs::Pages::is_told, crate::specs::Pages::told))]
 pub fn pages_if(
     fits: bool,
     board: Board,
@@ -152,6 +155,7 @@ pub fn pages_if(
 }
 
 // Where each page from `first` on is read from, and where a write to it goes.
+#[tactic(auto)]
 pub fn pages(board: Board, first: u8, reads: &mut [u32], writes: &mut [u32]) -> PagesAnswer
     ensures { PagesOwes board first reads.old writes.old result reads.new writes.new }
 {
@@ -201,6 +205,7 @@ fn same_ram_3(a: Mmc3, b: Mmc3) -> bool
 }
 
 // All that 0000-1FFF hangs on beside the cartridge.
+#[tactic(auto, unfolding(crate::specs::Parts::same_chr))]
 fn same_chr(mapper: MapperType, a: Registers, b: Registers) -> bool
     ensures { result ≡ same_chr mapper a b }
 {
@@ -218,6 +223,7 @@ fn same_chr(mapper: MapperType, a: Registers, b: Registers) -> bool
 }
 
 // All that 8000-FFFF hangs on.
+#[tactic(auto, unfolding(crate::specs::Parts::same_prg))]
 fn same_prg(mapper: MapperType, a: Registers, b: Registers) -> bool
     ensures { result ≡ same_prg mapper a b }
 {

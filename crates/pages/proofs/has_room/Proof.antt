@@ -13,4 +13,4 @@ has_room_spec =
     (tie.spec
     (λ c. search picks)
     (λ c. search picks)
-    (λ c. let a = c.before.args in sym (lt-leb (a.first + a.n) 64 (omega (arith, c.if1.false)))))
+    (λ c. let a = c.args in sym (lt-leb (a.first + a.n) 64 (omega (arith, c.if-n-le64.false)))))

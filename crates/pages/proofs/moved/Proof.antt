@@ -12,4 +12,4 @@ moved_spec =
     (λ c κs. search picks)
     (λ c κs. search picks)
     (λ c κs. search picks)
-    (λ c. simp (c.same-ram.ensures, c.before.same-prg.ensures, c.before.before.same-chr.ensures)))
+    (λ c. simp (c.same_ram.ensures, c.same_prg.ensures, c.same_chr.ensures)))

@@ -12,5 +12,5 @@ same_ram_spec =
     (tie.spec
     (λ c κs. search picks)
     (λ c κs. search picks)
-    (λ c. simp (c.same-ram-3.ensures, sym c.before.before.is.ensures ∙ c.before.if1.true))
-    (λ c. simp (sym c.before.is.ensures ∙ c.if1.false)))
+    (λ c. simp (c.same_ram_3.ensures, sym c.is.ensures ∙ c.if-is.true))
+    (λ c. simp (sym c.is.ensures ∙ c.if-is.false)))

@@ -14,5 +14,5 @@ write_page_spec =
     (λ c. search picks)
     (λ c κs. search picks)
     (λ c κs. search picks)
-    (λ c. let t = sym c.before.has-registers.ensures ∙ c.if1.true in simp (t))
-    (λ c. let t = sym c.before.before.before.has-registers.ensures ∙ c.before.before.if1.false in simp (t, c.written-to.ensures, c.before.write-landing.ensures)))
+    (λ c. let t = sym c.has_registers.ensures ∙ c.if-has_registers.true in simp (t))
+    (λ c. let t = sym c.has_registers.ensures ∙ c.if-has_registers.false in simp (t, c.written_to.ensures, c.write_landing.ensures)))
