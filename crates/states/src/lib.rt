@@ -443,6 +443,7 @@ pub fn mode_is_kept(mapper: MapperType, c: u64) -> bool
     }
 }
 
+#[tactic(auto, unfolding(crate::specs::Steps::banks_are_kept))]
 pub fn banks_are_kept(mapper: MapperType, b: u64) -> bool
     ensures { result ≡ banks_are_kept mapper b }
 {
@@ -455,6 +456,7 @@ pub fn banks_are_kept(mapper: MapperType, b: u64) -> bool
     }
 }
 
+#[tactic(auto, unfolding(crate::specs::Steps::mmc1_is_kept))]
 fn mmc1_is_kept(b: u64) -> bool
     ensures { result ≡ mmc1_is_kept b }
 {
@@ -473,6 +475,7 @@ pub fn mmc3_is_kept(mapper: MapperType, c: u64, r: u64, q: u64) -> bool
     }
 }
 
+#[tactic(auto, unfolding(crate::specs::Steps::mmc3_fits))]
 fn mmc3_fits(mode: Mode, mmc3: Mmc3, r: u64, q: u64) -> bool
     ensures { result ≡ mmc3_fits mode mmc3 r q }
 {

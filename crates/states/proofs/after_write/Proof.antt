@@ -10,8 +10,8 @@ unfolding after_write
 after_write_spec =
     tie.close (tie.spec (λ c κs. search picks) (λ c κs. search picks) (λ c κs. search picks) (λ c κs. search picks) (λ c κs. search picks)
     (λ c.
-    let t = sym c.before.before.before.is.ensures ∙ c.before.before.if1.true in
-    simp (t, c.irq-word.ensures, c.before.regs-word.ensures, c.before.before.before.before.before.before.before.before.before.before.with-screens.ensures))
+    let t = sym c.is.ensures ∙ c.if-is.true in
+    simp (t, c.irq_word.ensures, c.regs_word.ensures, c.with_screens-cart.ensures))
     (λ c.
-    let t = sym c.before.before.is.ensures ∙ c.before.if1.false in
-    simp (t, c.banks-word.ensures, c.before.before.before.before.before.before.before.before.before.with-screens.ensures)))
+    let t = sym c.is.ensures ∙ c.if-is.false in
+    simp (t, c.banks_word.ensures, c.with_screens-cart.ensures)))

@@ -6,4 +6,4 @@ use Rattle.states.proofs.cart_in.Tie as tie
 pub cart_in_spec : {M : Type 1} → statement M
 cart_in_spec =
     tie.close (tie.spec (λ c κs. search picks) (λ c κs. search picks) (λ c κs. search picks) (λ c. search picks) (λ c. search picks)
-    (λ c. simp (c.mirroring-of.ensures, c.before.mapper-in.ensures, c.before.before.mode-in.ensures)))
+    (λ c. simp (c.mirroring_of.ensures, c.mapper_in.ensures, c.mode_in.ensures)))

@@ -9,4 +9,4 @@ pub cart_is_kept_spec : {M : Type 1} → statement M
 unfolding cart_is_kept bad_prg
 cart_is_kept_spec =
     tie.close (tie.spec (λ c κs. search picks) (λ c. search picks) (λ c. search picks) (λ c. search picks) (λ c. search picks) (λ c. search picks)
-    (λ c. simp c.number.ensures))
+    (λ c. simp c.number-number.ensures))

@@ -9,5 +9,5 @@ pub mmc3_is_kept_spec : {M : Type 1} → statement M
 unfolding mmc3_is_kept
 mmc3_is_kept_spec =
     tie.close (tie.spec (λ c κs. search picks) (λ c κs. search picks) (λ c κs. search picks) (λ c κs. search picks)
-    (λ c. let t = sym c.before.before.before.before.is.ensures ∙ c.before.before.before.if1.true in simp (t, c.mmc3-fits.ensures, c.before.mmc3-in.ensures, c.before.before.mode-in.ensures))
-    (λ c. let t = sym c.before.is.ensures ∙ c.if1.false in simp (t)))
+    (λ c. let t = sym c.is.ensures ∙ c.if-is.true in simp (t, c.mmc3_fits.ensures, c.mmc3_in.ensures, c.mode_in.ensures))
+    (λ c. let t = sym c.is.ensures ∙ c.if-is.false in simp (t)))

@@ -9,6 +9,6 @@ use Rattle.states.proofs.mode_is_kept.Tie as tie
 pub mode_is_kept_spec : {M : Type 1} → statement M
 unfolding mode_is_kept
 mode_is_kept_spec =
-    tie.close (tie.spec (λ c κs. search picks) (λ c κs. search picks) (λ c κs. search picks) (λ c. simp (eq-eqb _ _ c.if1.true, c.before.is-ines-word.ensures))
-    (λ c. simp (ne_eqb _ _ c.before.before.if1.false, sym c.before.counts-are-no-powers.ensures ∙ c.if2.true))
-    (λ c. simp (ne_eqb _ _ c.before.before.before.if1.false, sym c.before.before.counts-are-no-powers.ensures ∙ c.before.if2.false, c.turned-fit.ensures, c.before.before.before.before.is-ines-word.ensures)))
+    tie.close (tie.spec (λ c κs. search picks) (λ c κs. search picks) (λ c κs. search picks) (λ c. simp (eq-eqb _ _ c.if-c-eq0.true, c.is_ines_word-ines.ensures))
+    (λ c. simp (ne_eqb _ _ c.if-c-eq0.false, sym c.counts_are_no_powers.ensures ∙ c.if-counts_are_no_powers.true))
+    (λ c. simp (ne_eqb _ _ c.if-c-eq0.false, sym c.counts_are_no_powers.ensures ∙ c.if-counts_are_no_powers.false, c.turned_fit.ensures, c.is_ines_word-ines.ensures)))

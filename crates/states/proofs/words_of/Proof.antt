@@ -8,4 +8,4 @@ pub words_of_spec : {M : Type 1} → statement M
 unfolding words_of
 words_of_spec =
     tie.close (tie.spec (λ c κs. search picks) (λ c κs. search picks) (λ c κs. search picks) (λ c κs. search picks)
-    (λ c. simp (c.irq-word.ensures, c.before.regs-word.ensures, c.before.before.banks-word.ensures, c.before.before.before.cart-word.ensures)))
+    (λ c. simp (c.irq_word.ensures, c.regs_word.ensures, c.banks_word.ensures, c.cart_word.ensures)))
