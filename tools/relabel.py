@@ -15,7 +15,8 @@ def canon(name):
 
 def steps_of(entry):
     pairs = [tuple(p[2]) for p in entry["places"]] + [tuple(l[0]) for l in entry["loops"]]
-    return {old: new for old, new in pairs if old}
+    # a name with -1 is the checker's own, for what a call lends or gives back: proofs do not cite it
+    return {old: new for old, new in pairs if old and new != old + "-1"}
 
 
 def relabelled(text, entry):

@@ -71,7 +71,7 @@ module _ (c : Cartridge) (is-mmc1 : c.mapper ≡ Mmc1) where
   idle : {m : mmc1-type.Mmc1} {b : Board} → At c m b → (cs : List Call) → Idle b cs → At c m (after b cs)
   unfolding after applied
   idle p [] i = p
-  idle p (call l e ∷ cs) i = idle (moved p l e Nothing i.0) cs i.1
+  idle {m} {b} p (call l e ∷ cs) i = idle {m = m} {b = next b l e} (moved p l e Nothing i.0) cs i.1
 
   -- the move of a serial write
   serial_move : {m : mmc1-type.Mmc1} {b : Board} → At c m b → (w : LentWrite) → IsSerialWrite w b → made b w.lent (Write w.address w.byte)
@@ -120,7 +120,8 @@ module _ (c : Cartridge) (is-mmc1 : c.mapper ≡ Mmc1) (r : Regs) where
       let q = idle c is-mmc1 p t.before h.0 in
       let k = bit_enters c is-mmc1 q w h.1 (omega arith) in
       subst⁻¹ (At c (holding (all_entered s (t ∷ ts)) r)) (after_append b t.before (call w.lent (Write w.address w.byte) ∷ calls_of ts cs))
-      (bits_enter (moved c is-mmc1 q w.lent (Write w.address w.byte) (Enter (entered s w.byte)) k) ts cs h.2 (omega arith))
+      (bits_enter {s = entered s w.byte} {b = next (after b t.before) w.lent (Write w.address w.byte)}
+      (moved c is-mmc1 q w.lent (Write w.address w.byte) (Enter (entered s w.byte)) k) ts cs h.2 (omega arith))
 
   nothing_loaded : {s : Serial} {b : Board} → At c (holding s r) b → (ts : List Bit) (cs : List Call) → AllEnter b ts cs → s.count + length ts ≤ 4
       → OnlyEnter (moves b (calls_of ts cs))
@@ -134,7 +135,7 @@ module _ (c : Cartridge) (is-mmc1 : c.mapper ≡ Mmc1) (r : Regs) where
       let k = bit_enters c is-mmc1 q w h.1 (omega arith) in
       idle_first b t.before h.0 (call w.lent e ∷ calls_of ts cs)
       (one_move_more d w.lent e (calls_of ts cs) (Enter (entered s w.byte)) k
-      (nothing_loaded (moved c is-mmc1 q w.lent e (Enter (entered s w.byte)) k) ts cs h.2 (omega arith)))
+      (nothing_loaded {s = entered s w.byte} {b = next d w.lent e} (moved c is-mmc1 q w.lent e (Enter (entered s w.byte)) k) ts cs h.2 (omega arith)))
 
 -- the five bits, shifted in from the top
 summed : (f : Five) → shifted (all_entered empty (first_four f)) f.fifth.write.byte ≡ five_bits f

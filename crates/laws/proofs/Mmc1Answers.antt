@@ -133,17 +133,17 @@ module _ {b d : Board} (r : Alike b d) where
 pub answers_alike : {b d : Board} → Alike b d → (cs : List Call) → answers b cs ≡ answers d cs
 unfolding answers
 answers_alike r [] = refl
-answers_alike r (call l e ∷ cs) = ap₂ ◌∷◌ (answer_alike r l e) (answers_alike (next_alike r l e) cs)
+answers_alike {b} {d} r (call l e ∷ cs) = ap₂ ◌∷◌ (answer_alike r l e) (answers_alike {b = next b l e} {d = next d l e} (next_alike r l e) cs)
 
 pub played_alike : {b d : Board} → Alike b d → (l : Lent) (es : List Event) → played (moment b l) es ≡ played (moment d l) es
 unfolding played stepped
 played_alike r l [] = refl
 played_alike {b} {d} r l (e ∷ es) =
     ap₂ ◌∷◌ (answer_alike r l e)
-    (played_alike (next_alike r l e) (left b l e) es ∙ ap (λ (k : Lent). played (moment (next d l e) k) es) (left_alike r l e))
+    (played_alike {b = next b l e} {d = next d l e} (next_alike r l e) (left b l e) es ∙ ap (λ (k : Lent). played (moment (next d l e) k) es) (left_alike r l e))
 
 pub ended_alike : {b d : Board} → Alike b d → (l : Lent) (es : List Event) → (ended (moment b l) es).lent ≡ (ended (moment d l) es).lent
 unfolding ended stepped
 ended_alike r l [] = refl
 ended_alike {b} {d} r l (e ∷ es) =
-    ended_alike (next_alike r l e) (left b l e) es ∙ ap (λ (k : Lent). (ended (moment (next d l e) k) es).lent) (left_alike r l e)
+    ended_alike {b = next b l e} {d = next d l e} (next_alike r l e) (left b l e) es ∙ ap (λ (k : Lent). (ended (moment (next d l e) k) es).lent) (left_alike r l e)

@@ -47,7 +47,7 @@ use Rattle.laws.proofs.Mmc1Answers.{Alike, answers_alike, played_alike, ended_al
 one_moves : {b d : Board} → Common b d → (cs : List Call) → moves b cs ≡ moves d cs
 unfolding moves
 one_moves r [] = refl
-one_moves r (call l e ∷ cs) = ap₂ ◌∷◌ (one_move r l e) (one_moves (next_common r l e) cs)
+one_moves {b} {d} r (call l e ∷ cs) = ap₂ ◌∷◌ (one_move r l e) (one_moves {b = next b l e} {d = next d l e} (next_common r l e) cs)
 
 -- in house mode the current mirroring is the header's
 house_screens : (b : Board) → in_range b ≡ true → b.cart.mode ≡ House → b.mirroring ≡ b.cart.mirroring

@@ -166,7 +166,7 @@ module _ (b d : Board) (l k : Lent) (cs ds : List Call) where
 answers_alike : {b d : Board} → Alike b d → (cs : List Call) → irq_answers b cs ≡ irq_answers d cs
 unfolding answers
 answers_alike r [] = refl
-answers_alike {b} {d} r (call l e ∷ cs) = one_more b d l l cs cs e (answer_alike r) (answers_alike (next_alike r l e) cs)
+answers_alike {b} {d} r (call l e ∷ cs) = one_more b d l l cs cs e (answer_alike r) (answers_alike {b = next b l e} {d = next d l e} (next_alike r l e) cs)
 
 settled : (mode : Mode) (v c e : ℕ) → mmc3-clock.clock_in mode (ready v c) ≡ mmc3-clock.clock_in mode (ready v e)
 unfolding mmc3-clock.clock_in mmc3-clock.house_clock mmc3-clock.board_clock mmc3-clock.next_counter
@@ -185,7 +185,7 @@ same_irq b cs ds same = sym (wiped_irq b cs) ∙ ap (irq_answers b) same ∙ wip
 after_alike : {b d : Board} → Alike b d → (cs : List Call) → Alike (after b cs) (after d cs)
 unfolding after
 after_alike r [] = r
-after_alike r (call l e ∷ cs) = after_alike (next_alike r l e) cs
+after_alike {b} {d} r (call l e ∷ cs) = after_alike {b = next b l e} {d = next d l e} (next_alike r l e) cs
 
 -- from that clock on every IRQ answer is the same, in either mode, under the same calls, where the lines were at one level
 pub mmc3_settles : (b d : Board) → OneImage Mmc3 b d → line_up b ≡ line_up d → (w u : Arming) → w.latch.byte ≡ u.latch.byte → Accepts b w → Accepts d u

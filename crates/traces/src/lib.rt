@@ -201,6 +201,7 @@ fn leading(n: u16) -> usize
     }
 }
 
+#[tactic(auto, unfolding(crate::specs::Text::five_digits, crate::specs::Text::decimal))]
 fn put_decimal(text: &mut [u8], at: usize, n: u16) -> usize
     requires { Room at 5 }
     ensures { Puts 5 text.old at (decimal n) result text.new }
@@ -217,6 +218,7 @@ fn hex_digit(n: u8) -> u8
     if n < 10 { 0x30 + n } else { 0x37 + n }
 }
 
+#[tactic(auto, unfolding(crate::specs::Text::hex))]
 fn put_hex(text: &mut [u8], at: usize, b: u8) -> usize
     requires { Room at 6 }
     ensures { Puts 6 text.old at (hex b) result text.new }
@@ -241,6 +243,7 @@ fn put_refusal(text: &mut [u8], at: usize, why: Refusal) -> usize
     put_decimal(text, next, why.number() as u16)
 }
 
+#[tactic(auto, unfolding(crate::specs::Text::read_text))]
 fn put_read(text: &mut [u8], at: usize, answer: ReadAnswer) -> usize
     requires { Room at 6 }
     ensures { Puts 6 text.old at (read_text answer) result text.new }
@@ -258,6 +261,7 @@ fn put_notice(text: &mut [u8], at: usize, m: Mirroring) -> usize
     put_letter(text, at, m.letter())
 }
 
+#[tactic(auto, unfolding(crate::specs::Text::write_text))]
 fn put_write(text: &mut [u8], at: usize, answer: WriteAnswer) -> usize
     requires { Room at 6 }
     ensures { Puts 6 text.old at (write_text answer) result text.new }
@@ -269,6 +273,7 @@ fn put_write(text: &mut [u8], at: usize, answer: WriteAnswer) -> usize
     }
 }
 
+#[tactic(auto, unfolding(crate::specs::Text::clock_text))]
 fn put_clock(text: &mut [u8], at: usize, answer: ClockAnswer) -> usize
     requires { Room at 6 }
     ensures { Puts 6 text.old at (clock_text answer) result text.new }
@@ -290,6 +295,7 @@ fn letter(answer: Answer) -> u8
     }
 }
 
+#[tactic(auto, unfolding(crate::specs::Text::answer_text))]
 fn put_answer(text: &mut [u8], at: usize, answer: Answer) -> usize
     requires { Room at 6 }
     ensures { Puts 6 text.old at (answer_text answer) result text.new }
@@ -302,6 +308,7 @@ fn put_answer(text: &mut [u8], at: usize, answer: Answer) -> usize
 }
 
 // A letter between two spaces.
+#[tactic(auto, unfolding(crate::specs::Text::between))]
 fn put_between(text: &mut [u8], at: usize, letter: u8) -> usize
     requires { Room at 3 }
     ensures { Puts 3 text.old at (between letter) result text.new }
@@ -407,6 +414,7 @@ fn play_all(board: Board, trace: &[u8], prg: &mut [u8], chr: &mut [u8], text: &m
     play_events(board, trace, count, prg, chr, text, at)
 }
 
+#[tactic(auto, unfolding(crate::specs::Run::loaded_run))]
 fn run_loaded(
     answer: LoadAnswer,
     board: Board,

@@ -12,4 +12,4 @@ event_at_spec =
     (tie.spec
     (λ c κs. search picks)
     (λ c κs. search picks)
-    (λ c. simp (c.event-of.ensures, c.before.fields_at.ensures)))
+    (λ c. simp (c.event_of.ensures, c.fields_at-fields.ensures)))

@@ -9,27 +9,27 @@ use Rattle.traces.specs.Format.{events_fit}
 use Rattle.traces.proofs.events_fit.Statement.{statement}
 use Rattle.traces.proofs.events_fit.Tie as tie
 
-abbrev invariant-loop : tie.invariant-loop
-invariant-loop trace count fit₀ i₀ fit i = (i ≤ count) × (fit ≡ events_fit trace i)
+abbrev invariant-loop-i : tie.invariant-loop-i
+invariant-loop-i trace count fit₀ i₀ fit i = (i ≤ count) × (fit ≡ events_fit trace i)
 
-abbrev decreases-loop : tie.decreases-loop
-decreases-loop trace count fit₀ i₀ fit i = count - i
+abbrev decreases-loop-i : tie.decreases-loop-i
+decreases-loop-i trace count fit₀ i₀ fit i = count - i
 
-loop-holds : tie.Need-loop-init invariant-loop decreases-loop
+loop-holds : tie.Need-loop-i-init invariant-loop-i decreases-loop-i
 unfolding events_fit
 loop-holds c = (omega arith, refl)
 
-loop-again : tie.Need-loop-preserved invariant-loop decreases-loop
+loop-again : tie.Need-loop-i-preserved invariant-loop-i decreases-loop-i
 unfolding events_fit
 loop-again c = (omega arith, rw (add-one _) (cc))
 
-returns : tie.Need-returns invariant-loop decreases-loop
+returns : tie.Need-returns invariant-loop-i decreases-loop-i
 returns c =
-    let l = c.before.loop in
-    l.invariant.1 ∙ rw (le_antisymm l.invariant.0 c.loop-test.false)
+    let l = c.loop-i in
+    l.invariant.1 ∙ rw (le_antisymm l.invariant.0 c.loop-i-test.false)
 
 pub events_fit_spec : {M : Type 1} → statement M
 events_fit_spec =
     tie.close
     (tie.spec
-    invariant-loop decreases-loop loop-holds (λ c κs. search picks) (λ c. search picks) (λ c. search picks) loop-again returns)
+    invariant-loop-i decreases-loop-i loop-holds (λ c κs. search picks) (λ c. search picks) (λ c. search picks) loop-again returns)

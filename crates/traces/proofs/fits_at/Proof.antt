@@ -12,4 +12,4 @@ fits_at_spec =
     (tie.spec
     (λ c κs. search picks)
     (λ c κs. search picks)
-    (λ c. simp (c.is-event.ensures, c.before.fields_at.ensures)))
+    (λ c. simp (c.is_event.ensures, c.fields_at-fields.ensures)))

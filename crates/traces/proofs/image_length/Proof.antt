@@ -10,4 +10,4 @@ image_length_spec =
     tie.close
     (tie.spec
     (λ c κs. search picks) (λ c κs. search picks) (λ c κs. search picks) (λ c κs. search picks) (λ c κs. search picks)
-    (λ c. (simp (c.big-4.ensures.0, c.before.byte-at4.ensures, c.before.before.byte-at3.ensures, c.before.before.before.byte-at2.ensures, c.before.before.before.before.byte_at.ensures), c.big-4.ensures.1)))
+    (λ c. (simp (c.big_4.ensures.0, c.byte_at-4.ensures, c.byte_at-3.ensures, c.byte_at-2.ensures, c.byte_at.ensures), c.big_4.ensures.1)))

@@ -11,4 +11,4 @@ play_all_spec =
     (tie.spec
     (λ c κs. search picks) (λ c κs. search picks) (λ c κs. search picks) (λ c. search picks) (λ c. search picks)
     (λ c. search picks)
-    (λ c. let a = c.before.before.before.before.before.before.before.before.before.before.before.before.before.before.before.before.before.before.before.before.args in whole a.trace.now a.text.now (held a.trace.now a.board a.prg.now a.chr.now) c.before.before.before.before.before.before.before.before.before.before.before.before.before.before.event-count.ensures (search picks) c.before.before.before.before.before.before.before.before.before.before.before.before.put-loaded.ensures c.before.before.before.before.before.before.play-events.ensures))
+    (λ c. let a = c.args in whole a.trace.now a.text.now (held a.trace.now a.board a.prg.now a.chr.now) c.event_count-count.ensures (search picks) c.put_loaded-at.ensures c.play_events.ensures))

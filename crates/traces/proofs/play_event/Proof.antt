@@ -11,4 +11,4 @@ play_event_spec =
     (tie.spec
     (λ c κs. search picks) (λ c κs. search picks) (λ c κs. search picks) (λ c κs. search picks) (λ c. search picks)
     (λ c. search picks) (λ c. search picks)
-    (λ c. record { says = named (cc) (omega arith) c.before.before.put-line.ensures; moves = cc }))
+    (λ c. record { says = named (cc) (omega arith) c.put_line-end.ensures; moves = cc }))

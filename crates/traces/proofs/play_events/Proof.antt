@@ -13,8 +13,8 @@ use Rattle.traces.proofs.Turns.{next_moment, next_lines}
 use Rattle.traces.proofs.play_events.Statement.{statement}
 use Rattle.traces.proofs.play_events.Tie as tie
 
-abbrev invariant-loop : tie.invariant-loop
-invariant-loop trace count prg₀ chr₀ text₀ from board₀ at₀ i₀ prg chr text board at i =
+abbrev invariant-loop-i : tie.invariant-loop-i
+invariant-loop-i trace count prg₀ chr₀ text₀ from board₀ at₀ i₀ prg chr text board at i =
     (i ≤ count)
     × (held trace board prg chr ≡ after trace (held trace board₀ prg₀ chr₀) i)
     × Puts (15 * i) text₀ from (lines trace (held trace board₀ prg₀ chr₀) i) at text
@@ -22,23 +22,23 @@ invariant-loop trace count prg₀ chr₀ text₀ from board₀ at₀ i₀ prg ch
     × (length chr ≡ length chr₀)
     × (length text ≡ length text₀)
 
-abbrev decreases-loop : tie.decreases-loop
-decreases-loop trace count prg₀ chr₀ text₀ from board₀ at₀ i₀ prg chr text board at i = count - i
+abbrev decreases-loop-i : tie.decreases-loop-i
+decreases-loop-i trace count prg₀ chr₀ text₀ from board₀ at₀ i₀ prg chr text board at i = count - i
 
-loop-holds : tie.Need-loop-init invariant-loop decreases-loop
+loop-holds : tie.Need-loop-i-init invariant-loop-i decreases-loop-i
 unfolding laid after lines
 loop-holds c = (omega arith, refl, record { next = omega arith; text = refl; room = omega arith }, refl, refl, refl)
 
-loop-again : tie.Need-loop-preserved invariant-loop decreases-loop
+loop-again : tie.Need-loop-i-preserved invariant-loop-i decreases-loop-i
 loop-again c =
-    let l = c.before.before.before.before.before.before.before.before.before.before.before.before.loop in
-    let o = c.before.before.before.before.before.before.before.play-event.ensures in
+    let l = c.loop-i in
+    let o = c.play_event-done.ensures in
     (omega arith, next_moment _ l.invariant.1 o, next_lines _ l.invariant.1 o l.invariant.2, search picks, search picks, search picks)
 
-returns : tie.Need-returns invariant-loop decreases-loop
+returns : tie.Need-returns invariant-loop-i decreases-loop-i
 returns c =
-    let l = c.before.loop in
-    let e : l.i ≡ c.before.before.before.before.before.before.args.count = le_antisymm l.invariant.0 c.loop-test.false in
+    let l = c.loop-i in
+    let e : l.i ≡ c.args.count = le_antisymm l.invariant.0 c.loop-i-test.false in
     record {
       says = rw e at l.invariant.2;
       prg_ram = ap (λ (m : Moment). m.lent.prg) (rw e at l.invariant.1);
@@ -49,5 +49,5 @@ pub play_events_spec : {M : Type 1} → statement M
 play_events_spec =
     tie.close
     (tie.spec
-    invariant-loop decreases-loop loop-holds (λ c κs. search picks) (λ c. search picks) (λ c. search picks) loop-again
+    invariant-loop-i decreases-loop-i loop-holds (λ c κs. search picks) (λ c. search picks) (λ c. search picks) loop-again
     (λ c. search picks) (λ c. search picks) (λ c. search picks) returns)

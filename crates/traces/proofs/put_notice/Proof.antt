@@ -12,4 +12,4 @@ put_notice_spec =
     tie.close
     (tie.spec
     (λ c κs. search picks) (λ c κs. search picks) (λ c. search picks)
-    (λ c. named (cc) (omega arith) c.before.before.put-letter.ensures))
+    (λ c. named (cc) (omega arith) c.put_letter.ensures))

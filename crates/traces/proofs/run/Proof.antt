@@ -10,8 +10,8 @@ run_spec =
     tie.close
     (tie.spec
     (λ c κs. search picks)
-    (λ c κs. few c.before.before.before.before.before.before.before.before.before.args.trace.now (sym c.before.before.before.before.is-trace.ensures ∙ c.before.before.before.if1.true))
+    (λ c κs. few c.args.trace.now (sym c.is_trace.ensures ∙ c.if-is_trace.true))
     (λ c κs. search picks) (λ c. search picks) (λ c. search picks) (λ c. search picks)
-    (λ c. let a = c.before.before.before.before.before.before.before.before.before.before.before.before.before.before.before.before.args in accepted a.trace.now a.text.now a.prg.now a.chr.now (sym c.before.before.before.before.before.before.before.before.before.before.before.is-trace.ensures ∙ c.before.before.before.before.before.before.before.before.before.before.if1.true) c.before.before.before.before.before.before.run-trace.ensures)
+    (λ c. let a = c.args in accepted a.trace.now a.text.now a.prg.now a.chr.now (sym c.is_trace.ensures ∙ c.if-is_trace.true) c.run_trace.ensures)
     (λ c. search picks)
-    (λ c. let a = c.before.before.before.before.before.before.before.before.before.before.args in malformed a.trace.now a.text.now (sym c.before.before.before.before.before.is-trace.ensures ∙ c.before.before.before.before.if1.false) c.before.before.Put-refused.ensures))
+    (λ c. let a = c.args in malformed a.trace.now a.text.now (sym c.is_trace.ensures ∙ c.if-is_trace.false) c.put_refused.ensures))

@@ -10,4 +10,4 @@ run_trace_spec =
     (tie.spec
     (λ c κs. search picks) (λ c κs. search picks) (λ c κs. search picks) (λ c κs. search picks) (λ c. search picks)
     (λ c. search picks) (λ c. search picks)
-    (λ c. from_load c.before.before.before.before.before.before.before.before.before.before.before.before.before.before.before.before.before.before.before.before.before.before.before.before.args.trace.now c.before.before.before.before.before.before.before.before.before.before.before.before.before.before.before.before.before.before.before.before.before.before.before.before.args.text.now c.before.before.before.before.before.before.before.before.before.before.before.before.before.before.before.before.before.before.image-of.ensures c.before.before.before.before.before.before.before.before.before.before.before.before.before.before.before.before.before.before.before.mode-of.ensures c.before.before.before.before.before.before.before.before.before.before.before.before.before.before.before.load.ensures c.before.before.before.before.before.before.run-loaded.ensures))
+    (λ c. from_load c.args.trace.now c.args.text.now c.image_of-image.ensures c.mode_of-mode.ensures c.load-loaded.ensures c.run_loaded.ensures))
