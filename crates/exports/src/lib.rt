@@ -32,6 +32,7 @@ fn refusal(why: Refusal) -> u16
     256 + (why.number() as u16)
 }
 
+#[tactic(auto, unfolding(crate::specs::Numbers::read_number))]
 fn read_number(answer: ReadAnswer) -> u16
     ensures { result ≡ read_number answer }
 {
@@ -41,6 +42,7 @@ fn read_number(answer: ReadAnswer) -> u16
     }
 }
 
+#[tactic(auto, unfolding(crate::specs::Numbers::write_number))]
 fn write_number(answer: WriteAnswer) -> u16
     ensures { result ≡ write_number answer }
 {
@@ -51,6 +53,7 @@ fn write_number(answer: WriteAnswer) -> u16
     }
 }
 
+#[tactic(auto, unfolding(crate::specs::Numbers::clock_number))]
 fn clock_number(answer: ClockAnswer) -> u16
     ensures { result ≡ clock_number answer }
 {
@@ -61,6 +64,7 @@ fn clock_number(answer: ClockAnswer) -> u16
     }
 }
 
+#[tactic(auto, unfolding(crate::specs::Numbers::load_number))]
 fn load_number(answer: LoadAnswer) -> u16
     ensures { result ≡ load_number answer }
 {
@@ -84,6 +88,7 @@ fn moved_number(parts: Parts) -> u32
     bit(parts.chr, 0x1_0000) + bit(parts.prg, 0x2_0000) + bit(parts.ram, 0x4_0000)
 }
 
+#[tactic(auto, unfolding(crate::specs::Numbers::pages_number))]
 fn pages_number(answer: PagesAnswer) -> u16
     ensures { result ≡ pages_number answer }
 {
@@ -388,6 +393,7 @@ fn fields_of(h: Header) -> [u8; 12]
     ]
 }
 
+#[tactic(auto, unfolding(crate::specs::Numbers::header_number, crate::specs::Numbers::fields_after, crate::specs::Numbers::fields_of, memory::specs::Memory::copied))]
 fn put_fields(answer: HeaderAnswer, fields: &mut [u8]) -> u16
     requires { length fields.old ≡ 12 }
     ensures { FieldsPut answer fields.old result fields.new }

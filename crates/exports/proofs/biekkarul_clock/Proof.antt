@@ -13,12 +13,12 @@ biekkarul_clock_spec =
     (λ c κs. search picks) (λ c κs. search picks) (λ c κs. search picks) (λ c κs. search picks) (λ c κs. search picks)
     (λ c κs. search picks) (λ c. search picks)
     (λ c.
-    let d = c.before.before.before.before.before.before.before.before in
-    let w = d.before.before.before.before.before.before.words-in.ensures in
-    let k = four_parts w d.before.before.before.before.mapper-in.ensures d.before.before.before.cart-is-kept.ensures d.before.before.mode-is-kept.ensures d.before.banks-are-kept.ensures d.mmc3-is-kept.ensures in
-    let t = c.before.before.before.before.before.before.before.clock-if.ensures in
-    let b = d.before.before.before.before.before.board-in.ensures in
+    let d = c in
+    let w = d.words_in-w.ensures in
+    let k = four_parts w d.mapper_in-mapper.ensures d.cart_is_kept.ensures d.mode_is_kept.ensures d.banks_are_kept.ensures d.mmc3_is_kept.ensures in
+    let t = c.clock_if-clocked.ensures in
+    let b = d.board_in-board.ensures in
     record {
-      reply = simp (c.before.before.before.before.before.before.clock-number.ensures, t, k, b, w);
-      state = simp (c.before.before.keep.ensures, c.before.before.before.after-clock.ensures, c.before.before.before.before.before.before.clock-number.ensures, t, k, b, w) (clock_kept d.before.before.before.before.before.before.before.before.before.args.state.now (words_in d.before.before.before.before.before.before.before.before.before.args.state.now));
+      reply = simp (c.clock_number-answer.ensures, t, k, b, w);
+      state = simp (c.keep.ensures, c.after_clock.ensures, c.clock_number-answer.ensures, t, k, b, w) (clock_kept d.args.state.now (words_in d.args.state.now));
     }))

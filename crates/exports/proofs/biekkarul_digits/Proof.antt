@@ -21,24 +21,24 @@ biekkarul_digits_spec =
     (λ c κs. search picks) (λ c κs. search picks) (λ c. search picks) (λ c κs. search picks) (λ c κs. search picks)
     (λ c. search picks)
     (λ c.
-    let d = c.before.before.before.before.before.before.before in
-    let w = d.before.before.before.before.before.words-in.ensures in
-    let k = four_parts w d.before.before.before.before.mapper-in.ensures d.before.before.before.cart-is-kept.ensures d.before.before.mode-is-kept.ensures d.before.banks-are-kept.ensures d.mmc3-is-kept.ensures in
-    let s = d.before.before.before.before.before.before.before.before.args.state.now in
-    let x = eqb (length d.before.before.before.before.before.before.before.before.args.digits.now) 40 in
-    let e = ap (λ y. y && x) (sym k) ∙ c.before.before.before.before.before.before.if1.true in
+    let d = c in
+    let w = d.words_in-w.ensures in
+    let k = four_parts w d.mapper_in-mapper.ensures d.cart_is_kept.ensures d.mode_is_kept.ensures d.banks_are_kept.ensures d.mmc3_is_kept.ensures in
+    let s = d.args.state.now in
+    let x = eqb (length d.args.digits.now) 40 in
+    let e = ap (λ y. y && x) (sym k) ∙ c.if-fits-digits.true in
     let l = and_left (is_kept (words_in s)) x e in
     let n = and_right (is_kept (words_in s)) x e in
     record {
       reply = simp (l, n);
-      digits = simp (l, n, c.before.before.copy-digits.ensures, c.before.before.before.before.digits_of.ensures, w);
+      digits = simp (l, n, c.copy_digits.ensures, c.digits_of.ensures, w);
     })
     (λ c.
-    let d = c.before.before in
-    let w = d.before.before.before.before.before.words-in.ensures in
-    let k = four_parts w d.before.before.before.before.mapper-in.ensures d.before.before.before.cart-is-kept.ensures d.before.before.mode-is-kept.ensures d.before.banks-are-kept.ensures d.mmc3-is-kept.ensures in
-    let x = eqb (length d.before.before.before.before.before.before.before.before.args.digits.now) 40 in
-    let e = ap (λ y. y && x) (sym k) ∙ c.before.if1.false in
+    let d = c in
+    let w = d.words_in-w.ensures in
+    let k = four_parts w d.mapper_in-mapper.ensures d.cart_is_kept.ensures d.mode_is_kept.ensures d.banks_are_kept.ensures d.mmc3_is_kept.ensures in
+    let x = eqb (length d.args.digits.now) 40 in
+    let e = ap (λ y. y && x) (sym k) ∙ c.if-fits-digits.false in
     record {
       reply = simp (e, c.refusal.ensures);
       digits = simp (e);

@@ -13,7 +13,7 @@ biekkarul_header_spec =
     (λ c. search picks)
     (λ c. search picks)
     (λ c. record {
-      reply = simp (c.before.before.put-fields.ensures.reply, c.before.before.before.before.parse.ensures, eq-eqb _ _ c.before.before.before.before.before.if1.true);
-      fields = simp (c.before.before.put-fields.ensures.fields, c.before.before.before.before.parse.ensures, eq-eqb _ _ c.before.before.before.before.before.if1.true);
+      reply = simp (c.put_fields.ensures.reply, c.parse.ensures, eq-eqb _ _ c.if-fields-eq12.true);
+      fields = simp (c.put_fields.ensures.fields, c.parse.ensures, eq-eqb _ _ c.if-fields-eq12.true);
     })
-    (λ c. record { reply = simp (c.refusal.ensures, ne_eqb _ _ c.before.if1.false); fields = simp (ne_eqb _ _ c.before.if1.false) }))
+    (λ c. record { reply = simp (c.refusal.ensures, ne_eqb _ _ c.if-fields-eq12.false); fields = simp (ne_eqb _ _ c.if-fields-eq12.false) }))

@@ -7,26 +7,26 @@ use Rattle.exports.specs.Numbers.{refused, load_number}
 use Rattle.exports.proofs.biekkarul_load.Statement.{statement}
 use Rattle.exports.proofs.biekkarul_load.Tie as tie
 
-returns : tie.Need-returns
+returns : tie.Need-returns-then-state-mode
 returns c =
-    let f = c.before.before.before.before.before.before.before.before.before.before.before.before.before.before.before.before.before.rams-fit.ensures in
-    let e = c.before.before.before.before.before.before.before.before.before.before.before.before.before.before.before.before.if1.true in
-    let n = c.before.before.before.before.before.before.before.before.before.before.before.before.before.before.before.if2.true in
-    let m = c.before.before.before.before.before.before.before.before.before.before.before.before.before.before.numbered.ensures in
-    let l = c.before.before.before.before.before.before.before.before.before.before.before.load.ensures in
+    let f = c.rams_fit.ensures in
+    let e = c.if-rams_fit.true in
+    let n = c.if-state-mode.true in
+    let m = c.numbered.ensures in
+    let l = c.load-loaded.ensures in
     record {
-      reply = simp (← f, e, n, c.before.before.before.before.before.before.load-number.ensures, l.reply, m);
-      state = simp (← f, e, n, c.before.before.keep.ensures, c.before.before.before.words_of.ensures, l.reply, m);
+      reply = simp (← f, e, n, c.load_number-answer.ensures, l.reply, m);
+      state = simp (← f, e, n, c.keep.ensures, c.words_of.ensures, l.reply, m);
       prg_ram = simp (← f, e, n, l.prg_ram, m);
       chr_ram = simp (← f, e, n, l.chr_ram, m);
     }
 
-returns-2 : tie.Need-returns-2
+returns-2 : tie.Need-returns-else-state-mode
 unfolding state_left load_number refused loaded_as loaded_board ram_after
 returns-2 c =
-    let f = c.before.before.before.rams-fit.ensures in
-    let e = c.before.before.if1.true in
-    let n = c.before.if2.false in
+    let f = c.rams_fit.ensures in
+    let e = c.if-rams_fit.true in
+    let n = c.if-state-mode.false in
     record {
       reply = simp (← f, e, n, c.refusal.ensures);
       state = simp (n, c.refusal.ensures);
@@ -34,14 +34,14 @@ returns-2 c =
       chr_ram = simp (← f, e, n);
     }
 
-returns-3 : tie.Need-returns-3
+returns-3 : tie.Need-returns-else-rams_fit
 unfolding state_left load_number refused loaded_as loaded_board ram_after
 returns-3 c =
-    let f = c.before.before.rams-fit.ensures in
-    let e = c.before.if1.false in
+    let f = c.rams_fit.ensures in
+    let e = c.if-rams_fit.false in
     record {
-      reply = simp (← f, e, c.refusal2.ensures);
-      state = simp c.refusal2.ensures;
+      reply = simp (← f, e, c.refusal-else-rams_fit.ensures);
+      state = simp c.refusal-else-rams_fit.ensures;
       prg_ram = simp (← f, e);
       chr_ram = simp (← f, e);
     }

@@ -20,13 +20,13 @@ biekkarul_pages_spec =
     (λ c. search picks)
     (λ c. search picks)
     (λ c.
-    let d = c.before.before.before.before.before.before.before.before in
-    let w = d.before.before.before.before.before.before.words-in.ensures in
-    let k = four_parts w d.before.before.before.before.mapper-in.ensures d.before.before.before.cart-is-kept.ensures d.before.before.mode-is-kept.ensures d.before.banks-are-kept.ensures d.mmc3-is-kept.ensures in
-    let b = d.before.before.before.before.before.board-in.ensures in
-    let o = c.before.before.before.before.before.pages-if.ensures in
+    let d = c in
+    let w = d.words_in-w.ensures in
+    let k = four_parts w d.mapper_in-mapper.ensures d.cart_is_kept.ensures d.mode_is_kept.ensures d.banks_are_kept.ensures d.mmc3_is_kept.ensures in
+    let b = d.board_in-board.ensures in
+    let o = c.pages_if.ensures in
     record {
-      reply = simp (c.pages-number.ensures, o.reply, k, b, w) (number_told _);
+      reply = simp (c.pages_number.ensures, o.reply, k, b, w) (number_told _);
       read_pages = simp (o.read_pages, k, b, w);
       write_pages = simp (o.write_pages, k, b, w);
     }))

@@ -20,8 +20,8 @@ biekkarul_read_spec =
     (λ c κs. search picks)
     (λ c κs. search picks)
     (λ c.
-    let d = c.before.before.before in
-    let w = d.before.before.before.before.before.before.words-in.ensures in
-    let k = four_parts w d.before.before.before.before.mapper-in.ensures d.before.before.before.cart-is-kept.ensures d.before.before.mode-is-kept.ensures d.before.banks-are-kept.ensures d.mmc3-is-kept.ensures in
-    let b = d.before.before.before.before.before.board-in.ensures in
-    simp (c.read_number.ensures, c.before.read-if.ensures, k, b, w)))
+    let d = c in
+    let w = d.words_in-w.ensures in
+    let k = four_parts w d.mapper_in-mapper.ensures d.cart_is_kept.ensures d.mode_is_kept.ensures d.banks_are_kept.ensures d.mmc3_is_kept.ensures in
+    let b = d.board_in-board.ensures in
+    simp (c.read_number.ensures, c.read_if.ensures, k, b, w)))

@@ -16,9 +16,9 @@ biekkarul_write_moved_spec =
     (λ c. search picks)
     (λ c. search picks)
     (λ c.
-    let o = c.before.before.before.before.before.before.before.before.write-in.ensures in
+    let o = c.write_in-wrote.ensures in
     record {
-      reply = simp (c.moved-number.ensures.0, o.parts, o.write.reply);
+      reply = simp (c.moved_number.ensures.0, o.parts, o.write.reply);
       left =
           record {
             reply = refl;

@@ -10,4 +10,4 @@ five_words_spec =
     tie.close
     (tie.spec
     (λ c κs. search picks) (λ c κs. search picks) (λ c κs. search picks) (λ c κs. search picks) (λ c κs. search picks)
-    (λ c. simp (c.word-at5.ensures.0, c.before.word-at4.ensures.0, c.before.before.word-at3.ensures.0, c.before.before.before.word-at2.ensures.0, c.before.before.before.before.word_at.ensures.0)))
+    (λ c. simp (c.word_at-5.ensures.0, c.word_at-4.ensures.0, c.word_at-3.ensures.0, c.word_at-2.ensures.0, c.word_at.ensures.0)))

@@ -11,5 +11,5 @@ keep_spec =
     tie.close
     (tie.spec
     (λ c κs. search picks) (λ c. search picks)
-    (λ c. simp (lt-ltb _ _ c.before.before.before.before.before.if1.true, eq-eqb _ _ c.before.before.before.before.if2.true, c.before.before.put-words.ensures))
-    (λ c. simp (lt-ltb _ _ c.before.if1.true, ne_eqb _ _ c.if2.false)) (λ c. simp (le-ltb _ _ c.if1.false)))
+    (λ c. simp (lt-ltb _ _ c.if-answer-lt256.true, eq-eqb _ _ c.if-state-eq40.true, c.put_words.ensures))
+    (λ c. simp (lt-ltb _ _ c.if-answer-lt256.true, ne_eqb _ _ c.if-state-eq40.false)) (λ c. simp (le-ltb _ _ c.if-answer-lt256.false)))

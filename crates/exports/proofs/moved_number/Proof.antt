@@ -12,6 +12,6 @@ moved_number_spec =
     (tie.spec
     (λ c κs. search picks) (λ c κs. search picks) (λ c. search picks) (λ c κs. search picks) (λ c. search picks)
     (λ c. (
-      simp (c.bit3.ensures.0, c.before.bit2.ensures.0, c.before.before.bit.ensures.0),
-      omega (arith, c.bit3.ensures.1, c.before.bit2.ensures.1, c.before.before.bit.ensures.1),
+      simp (c.bit-3.ensures.0, c.bit-2.ensures.0, c.bit.ensures.0),
+      omega (arith, c.bit-3.ensures.1, c.bit-2.ensures.1, c.bit.ensures.1),
     )))

@@ -14,8 +14,8 @@ put_word_spec =
     (λ c κs. search picks) (λ c. search picks) (λ c. search picks) (λ c. search picks) (λ c. search picks)
     (λ c κs. search picks) (λ c. search picks) (λ c κs. search picks) (λ c. search picks)
     (λ c.
-    let x = c.before.before.before.before.before.before.before.before.before.before in
-    simp (c.before.before.copy.ensures, c.before.before.before.before.bytes-of-word.ensures, add-sub_cancel_left) (put_over x.args.at x.args.s.now x.args.w x.requires))
+    let x = c in
+    simp (c.copy.ensures, c.bytes_of_word.ensures, add-sub_cancel_left) (put_over x.args.at x.args.s.now x.args.w x.requires))
     (λ c. search picks)
     (λ c.
-    let x = c.before.before.before.before in put_same x.args.at x.args.s.now c.before.word_at.result c.before.word_at.ensures.1 ∙ ap (word_put x.args.s.now x.args.at) c.if1.false))
+    let x = c in put_same x.args.at x.args.s.now c.word_at.result c.word_at.ensures.1 ∙ ap (word_put x.args.s.now x.args.at) c.if-word_at-w.false))

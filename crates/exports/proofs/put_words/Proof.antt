@@ -11,10 +11,10 @@ put_words_spec =
     (λ c κs. search picks) (λ c κs. search picks) (λ c κs. search picks) (λ c κs. search picks) (λ c κs. search picks)
     (λ c. search picks)
     (λ c.
-    let x = c.before.before.before.before.before.before.before.before.before.before.before.before.before.before.before.before.before.before.before.before.before in
+    let x = c in
     all_put x.args.s.now _ _ _ _ _ x.args.w x.requires
-    c.before.before.before.before.before.before.before.before.before.before.before.before.before.before.before.before.before.before.put_word.ensures
-    c.before.before.before.before.before.before.before.before.before.before.before.before.before.before.put-word2.ensures
-    c.before.before.before.before.before.before.before.before.before.before.put-word3.ensures
-    c.before.before.before.before.before.before.put-word4.ensures
-    c.before.before.put-word5.ensures))
+    c.put_word.ensures
+    c.put_word-2.ensures
+    c.put_word-3.ensures
+    c.put_word-4.ensures
+    c.put_word-5.ensures))

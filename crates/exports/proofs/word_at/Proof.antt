@@ -16,4 +16,4 @@ word_at_spec =
     (λ c. search picks) (λ c. search picks) (λ c. search picks) (λ c. search picks) (λ c. search picks)
     (λ c κs. search picks)
     (λ c.
-    let x = c.before.before.before.before.before.before.before.before.before.before in (c.word.ensures.0, c.word.ensures.1 ∙ sym (eight_at x.args.i x.args.s.now x.requires))))
+    let x = c in (c.word.ensures.0, c.word.ensures.1 ∙ sym (eight_at x.args.i x.args.s.now x.requires))))

@@ -10,5 +10,5 @@ unfolding words_in
 words_in_spec =
     tie.close
     (tie.spec
-    (λ c κs. search picks) (λ c. simp (eq-eqb _ _ c.before.if1.true, c.five-words.ensures))
-    (λ c. simp (ne_eqb _ _ c.if1.false)))
+    (λ c κs. search picks) (λ c. simp (eq-eqb _ _ c.if-s-eq40.true, c.five_words.ensures))
+    (λ c. simp (ne_eqb _ _ c.if-s-eq40.false)))

@@ -30,22 +30,22 @@ write_in_spec =
     (λ c. search picks)
     (λ c. search picks)
     (λ c.
-    let d = c.before.before.before.before.before.before.before.before.before.before.before.before.before.before.before.before in
-    let w = d.before.before.before.before.before.before.words-in.ensures in
-    let k = four_parts w d.before.before.before.before.mapper-in.ensures d.before.before.before.cart-is-kept.ensures d.before.before.mode-is-kept.ensures d.before.banks-are-kept.ensures d.mmc3-is-kept.ensures in
-    let t = c.before.before.before.before.before.before.before.before.before.before.before.before.write-if.ensures in
-    let b = d.before.before.before.before.before.board-in.ensures in
-    let n = c.before.before.before.before.before.before.before.write-number.ensures in
-    let x = d.before.before.before.before.before.before.before.before.before.before.before.before.args in
+    let d = c in
+    let w = d.words_in-w.ensures in
+    let k = four_parts w d.mapper_in-mapper.ensures d.cart_is_kept.ensures d.mode_is_kept.ensures d.banks_are_kept.ensures d.mmc3_is_kept.ensures in
+    let t = c.write_if-written.ensures in
+    let b = d.board_in-board.ensures in
+    let n = c.write_number-answer.ensures in
+    let x = d.args in
     let u = words_in x.state.now in
     let l = eqb (length x.image.now) u.length in
     record {
       write =
           record {
             reply = simp (n, t.reply, k, b, w);
-            state = simp (c.before.before.keep.ensures, c.before.before.before.after_write.ensures, n, d.before.before.before.before.mapper-in.ensures, t.reply, k, b, w) (write_kept x.state.now u x.value x.address (is_kept u && l) (and_left (is_kept u) l) x.prg.now x.chr.now);
+            state = simp (c.keep.ensures, c.after_write.ensures, n, d.mapper_in-mapper.ensures, t.reply, k, b, w) (write_kept x.state.now u x.value x.address (is_kept u && l) (and_left (is_kept u) l) x.prg.now x.chr.now);
             prg_ram = simp (t.prg_ram, k, b, w);
             chr_ram = simp (t.chr_ram, k, b, w);
           };
-      parts = simp (c.before.before.before.before.before.moved.ensures, d.before.before.before.before.mapper-in.ensures, t.reply, k, b, w, named u);
+      parts = simp (c.moved-parts.ensures, d.mapper_in-mapper.ensures, t.reply, k, b, w, named u);
     }))
