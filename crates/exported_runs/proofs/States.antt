@@ -86,20 +86,24 @@ module _ {s : List ℕ} {b : Board} (h : Holds s b) where
 pub run_holds : {s : List ℕ} {b : Board} → Holds s b → (cs : List Call) → WriteBytes cs → Holds (state_after s cs) (after b cs)
 unfolding state_after after
 run_holds h [] v = h
-run_holds h (call l e ∷ cs) v = run_holds (next_holds h l e v.0) cs v.1
+run_holds {s} {b} h (call l e ∷ cs) v = run_holds {s = next_state s l e} {b = next b l e} (next_holds h l e v.0) cs v.1
 
 pub numbers_of : {s : List ℕ} {b : Board} → Holds s b → (cs : List Call) → WriteBytes cs → numbers s cs ≡ map answer_number (answers b cs)
 unfolding numbers answers
 numbers_of h [] v = refl
-numbers_of h (call l e ∷ cs) v = ap₂ ◌∷◌ (number_of h l e) (numbers_of (next_holds h l e v.0) cs v.1)
+numbers_of {s} {b} h (call l e ∷ cs) v =
+    ap₂ ◌∷◌ (number_of h l e) (numbers_of {s = next_state s l e} {b = next b l e} (next_holds h l e v.0) cs v.1)
 
 -- and its clocks
 pub clocks_of : {s : List ℕ} {b : Board} → Holds s b → (cs : List Call) → WriteBytes cs → clock_numbers s cs ≡ map clock_number (irq_answers b cs)
 unfolding clock_numbers answers answer
 clocks_of h [] v = refl
-clocks_of h (call l (Read a) ∷ cs) v = clocks_of (next_holds h l (Read a) v.0) cs v.1
-clocks_of h (call l (Write a x) ∷ cs) v = clocks_of (next_holds h l (Write a x) v.0) cs v.1
-clocks_of h (call l Clock ∷ cs) v = ap₂ ◌∷◌ (number_of h l Clock) (clocks_of (next_holds h l Clock v.0) cs v.1)
+clocks_of {s} {b} h (call l (Read a) ∷ cs) v =
+    clocks_of {s = next_state s l (Read a)} {b = next b l (Read a)} (next_holds h l (Read a) v.0) cs v.1
+clocks_of {s} {b} h (call l (Write a x) ∷ cs) v =
+    clocks_of {s = next_state s l (Write a x)} {b = next b l (Write a x)} (next_holds h l (Write a x) v.0) cs v.1
+clocks_of {s} {b} h (call l Clock ∷ cs) v =
+    ap₂ ◌∷◌ (number_of h l Clock) (clocks_of {s = next_state s l Clock} {b = next b l Clock} (next_holds h l Clock v.0) cs v.1)
 
 -- a write is accepted exactly when its number is no refusal
 told : (r : WriteAnswer) → is_refused (write_number r) ≡ is_refusal (toWrite r)
