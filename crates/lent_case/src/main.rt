@@ -7,6 +7,7 @@ ghost use Rattle.mmc3.specs.Clock.{clock_in};
 
 use common::Mode;
 use mmc3::{Clocked, Irq};
+use std::io;
 
 // What the owner has after the loan is what a clock by value gives.
 fn lend(irq: Irq, mode: Mode) -> Clocked
@@ -27,40 +28,31 @@ fn armed(latch: u8) -> Irq {
     }
 }
 
-fn print(bytes: &[u8]) {
-    io::write_all(1, bytes);
-}
-
-fn end_line() {
-    print(b"\n");
-}
-
-fn print_answer(answer: bool) {
+fn print_answer(rt: &impl Print, answer: bool) -> io::Result<()> {
     if answer {
-        print(b" yes");
+        print!(rt; " yes")
     } else {
-        print(b" no");
+        print!(rt; " no")
     }
 }
 
-fn play(mode: Mode, latch: u8, clocks: usize) {
+fn play(rt: &impl Print, mode: Mode, latch: u8, clocks: usize) -> io::Result<()> {
     let mut unit = armed(latch);
-    for i in 0..clocks {
+    for _ in 0..clocks {
         let clocked = lend(unit, mode);
-        print_answer(clocked.answer);
-        let next = clocked.irq;
-        unit = next;
+        print_answer(rt, clocked.answer)?;
+        unit = clocked.irq;
     }
-    end_line();
+    println!(rt; "")
 }
 
-fn main() {
-    print(b"P9 house:");
-    play(Mode::House, 0, 3);
-    print(b"P9 board raises:");
-    play(Mode::Board, 0, 3);
-    print(b"P10 house:");
-    play(Mode::House, 2, 7);
-    print(b"P10 board raises:");
-    play(Mode::Board, 2, 7);
+fn main(rt: HostRuntime) -> io::Result<()> {
+    print!(rt; "P9 house:")?;
+    play(&rt, Mode::House, 0, 3)?;
+    print!(rt; "P9 board raises:")?;
+    play(&rt, Mode::Board, 0, 3)?;
+    print!(rt; "P10 house:")?;
+    play(&rt, Mode::House, 2, 7)?;
+    print!(rt; "P10 board raises:")?;
+    play(&rt, Mode::Board, 2, 7)
 }

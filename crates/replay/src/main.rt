@@ -1,6 +1,9 @@
 // Plays the recorded answers of the original Rust on the exported calls and compares each; docs/RECORDED.md has the file's form.
 #![tactic(auto)]
 
+use std::io;
+use whole_input::read_full;
+
 const HOUSE: u8 = 0;
 
 const READ: u8 = 0;
@@ -121,46 +124,52 @@ fn fill_image(image: &mut [u8]) {
     }
 }
 
-fn print(bytes: &[u8]) {
-    io::write_all(1, bytes);
-}
-
-fn print_part(text: &[u8], n: u64) {
-    print(text);
-    io::print_decimal(1, n);
-}
-
 // How an answer parts from the recorded one, after its place.
-fn tell(recorded: u64, answered: u64, is_kept: bool) {
-    print_part(b": recorded ", recorded);
-    print_part(b", answered ", answered);
+fn tell(rt: &impl Print, recorded: u64, answered: u64, is_kept: bool) -> io::Result<()> {
+    print!(rt; ": recorded {recorded}, answered {answered}")?;
     if !is_kept {
-        print(b", lent bytes changed");
+        print!(rt; ", lent bytes changed")?;
     }
-    print(b"\n");
+    println!(rt; "")
 }
 
-fn tell_load(case: u16, recorded: u16, answered: u16, is_kept: bool) {
-    print_part(b"case ", case as u64);
-    print(b", load");
-    tell(recorded as u64, answered as u64, is_kept);
+fn tell_load(
+    rt: &impl Print,
+    case: u16,
+    recorded: u16,
+    answered: u16,
+    is_kept: bool,
+) -> io::Result<()> {
+    print!(rt; "case {case}, load")?;
+    tell(rt, recorded as u64, answered as u64, is_kept)
 }
 
-fn tell_event(case: u16, event: u16, recorded: u16, answered: u16, is_kept: bool) {
-    print_part(b"case ", case as u64);
-    print_part(b", event ", event as u64);
-    tell(recorded as u64, answered as u64, is_kept);
+fn tell_event(
+    rt: &impl Print,
+    case: u16,
+    event: u16,
+    recorded: u16,
+    answered: u16,
+    is_kept: bool,
+) -> io::Result<()> {
+    print!(rt; "case {case}, event {event}")?;
+    tell(rt, recorded as u64, answered as u64, is_kept)
 }
 
-fn tell_header(i: u16, recorded: u16, answered: u16, is_kept: bool) {
-    print_part(b"header ", i as u64);
-    tell(recorded as u64, answered as u64, is_kept);
+fn tell_header(
+    rt: &impl Print,
+    i: u16,
+    recorded: u16,
+    answered: u16,
+    is_kept: bool,
+) -> io::Result<()> {
+    print!(rt; "header {i}")?;
+    tell(rt, recorded as u64, answered as u64, is_kept)
 }
 
-fn tell_size(i: u16, recorded: u32, answered: u32) {
-    print_part(b"header ", i as u64);
-    print(b", size");
-    tell(recorded as u64, answered as u64, true);
+fn tell_size(rt: &impl Print, i: u16, recorded: u32, answered: u32) -> io::Result<()> {
+    print!(rt; "header {i}, size")?;
+    tell(rt, recorded as u64, answered as u64, true)
 }
 
 fn same_lent(a: Lent, b: Lent) -> bool {
@@ -240,10 +249,17 @@ fn call(event: &[u8], image: &[u8], lent: Lent) -> Called {
 }
 
 // The event at the place, unless an answer before it was not as recorded.
-fn play_event(run: Run, case: u16, i: u16, file: &[u8], image: &[u8]) -> Run {
+fn play_event(
+    rt: &impl Print,
+    run: Run,
+    case: u16,
+    i: u16,
+    file: &[u8],
+    image: &[u8],
+) -> io::Result<Run> {
     let tally = run.tally;
     if !tally.good {
-        return run;
+        return Ok(run);
     }
     let at = tally.at;
     let event = memory::tail_of(file, at);
@@ -255,20 +271,26 @@ fn play_event(run: Run, case: u16, i: u16, file: &[u8], image: &[u8]) -> Run {
     let is_kept = kept(answered, before, lent);
     let good = (recorded == answered) & is_kept;
     if !good {
-        tell_event(case, i, recorded, answered, is_kept);
+        tell_event(rt, case, i, recorded, answered, is_kept)?;
     }
     let mut next = tally.judged(6, good, answered);
     next.events = more(tally.events);
-    Run { tally: next, lent }
+    Ok(Run { tally: next, lent })
 }
 
-fn play_events(start: Run, case: u16, count: u16, file: &[u8], image: &[u8]) -> Run {
+fn play_events(
+    rt: &impl Print,
+    start: Run,
+    case: u16,
+    count: u16,
+    file: &[u8],
+    image: &[u8],
+) -> io::Result<Run> {
     let mut run = start;
     for i in 0..count {
-        let next = play_event(run, case, i, file, image);
-        run = next;
+        run = play_event(rt, run, case, i, file, image)?;
     }
-    run
+    Ok(run)
 }
 
 // Both RAMs are marked before a load.
@@ -281,7 +303,7 @@ fn marked(lent: Lent) -> Lent {
     }
 }
 
-fn play_load(run: Run, case: u16, recorded: u16, image: &[u8]) -> Run {
+fn play_load(rt: &impl Print, run: Run, case: u16, recorded: u16, image: &[u8]) -> io::Result<Run> {
     let tally = run.tally;
     let before = marked(run.lent);
     let called = load(image, before);
@@ -290,11 +312,11 @@ fn play_load(run: Run, case: u16, recorded: u16, image: &[u8]) -> Run {
     let is_kept = kept(answered, before, lent);
     let good = (recorded == answered) & is_kept;
     if !good {
-        tell_load(case, recorded, answered, is_kept);
+        tell_load(rt, case, recorded, answered, is_kept)?;
     }
     let mut next = tally.judged(24, good, answered);
     next.loads = more(tally.loads);
-    Run { tally: next, lent }
+    Ok(Run { tally: next, lent })
 }
 
 fn put_header(image: &mut [u8; 262160], header: &[u8]) {
@@ -304,44 +326,69 @@ fn put_header(image: &mut [u8; 262160], header: &[u8]) {
 }
 
 // The load and the events of the case at the place.
-fn play_image(run: Run, case: u16, file: &[u8], image: &[u8], size: usize) -> Run {
+fn play_image(
+    rt: &impl Print,
+    run: Run,
+    case: u16,
+    file: &[u8],
+    image: &[u8],
+    size: usize,
+) -> io::Result<Run> {
     let tally = run.tally;
     if image.len() < size {
-        print(b"an image is longer than the room for it\n");
+        println!(rt; "an image is longer than the room for it")?;
         let lent = run.lent;
         let stopped = tally.judged(0, false, 0);
-        return Run {
+        return Ok(Run {
             tally: stopped,
             lent,
-        };
+        });
     }
     let at = tally.at;
     let record = memory::tail_of(file, at);
-    let loaded = play_load(run, case, two_at(record, 20), image);
-    play_events(loaded, case, two_at(record, 22), file, image)
+    let loaded = play_load(rt, run, case, two_at(record, 20), image)?;
+    play_events(rt, loaded, case, two_at(record, 22), file, image)
 }
 
 // Makes the image of the case at the place and plays it.
-fn play_record(run: Run, case: u16, file: &[u8], image: &mut [u8; 262160]) -> Run {
+fn play_record(
+    rt: &impl Print,
+    run: Run,
+    case: u16,
+    file: &[u8],
+    image: &mut [u8; 262160],
+) -> io::Result<Run> {
     let tally = run.tally;
     let at = tally.at;
     let record = memory::tail_of(file, at);
     let size = four_at(record, 16) as usize;
     put_header(image, record);
-    play_image(run, case, file, memory::part_of(image, 0, size), size)
+    play_image(rt, run, case, file, memory::part_of(image, 0, size), size)
 }
 
 // Nothing more is played once an answer was not as recorded.
-fn play_case(run: Run, case: u16, file: &[u8], image: &mut [u8; 262160]) -> Run {
+fn play_case(
+    rt: &impl Print,
+    run: Run,
+    case: u16,
+    file: &[u8],
+    image: &mut [u8; 262160],
+) -> io::Result<Run> {
     let tally = run.tally;
     if tally.good {
-        play_record(run, case, file, image)
+        play_record(rt, run, case, file, image)
     } else {
-        run
+        Ok(run)
     }
 }
 
-fn play_cases(start: Tally, count: u16, file: &[u8], image: &mut [u8; 262160]) -> Tally {
+fn play_cases(
+    rt: &impl Print,
+    start: Tally,
+    count: u16,
+    file: &[u8],
+    image: &mut [u8; 262160],
+) -> io::Result<Tally> {
     let lent = Lent {
         state: [0; 40],
         prg: [0; 8192],
@@ -349,11 +396,9 @@ fn play_cases(start: Tally, count: u16, file: &[u8], image: &mut [u8; 262160]) -
     };
     let mut run = Run { tally: start, lent };
     for case in 0..count {
-        let next = play_case(run, case, file, image);
-        run = next;
+        run = play_case(rt, run, case, file, image)?;
     }
-    let tally = run.tally;
-    tally
+    Ok(run.tally)
 }
 
 fn size_of(prg: u8, chr: u8) -> u32 {
@@ -379,9 +424,9 @@ fn are_fields(answered: u16, fields: &[u8; 12], bytes: &[u8]) -> bool {
     }
 }
 
-fn play_header(tally: Tally, i: u16, file: &[u8]) -> Tally {
+fn play_header(rt: &impl Print, tally: Tally, i: u16, file: &[u8]) -> io::Result<Tally> {
     if !tally.good {
-        return tally;
+        return Ok(tally);
     }
     let at = tally.at;
     let record = memory::tail_of(file, at);
@@ -395,50 +440,54 @@ fn play_header(tally: Tally, i: u16, file: &[u8]) -> Tally {
     let size = size_in(answered, &fields);
     let is_answer = (recorded == answered) & is_kept;
     if !is_answer {
-        tell_header(i, recorded, answered, is_kept);
+        tell_header(rt, i, recorded, answered, is_kept)?;
     }
     if size != sized {
-        tell_size(i, sized, size);
+        tell_size(rt, i, sized, size)?;
     }
     let mut next = tally.judged(7 + count, is_answer & (size == sized), answered);
     next.headers = more(tally.headers);
-    next
+    Ok(next)
 }
 
-fn play_headers(start: Tally, count: u16, file: &[u8]) -> Tally {
+fn play_headers(rt: &impl Print, start: Tally, count: u16, file: &[u8]) -> io::Result<Tally> {
     let mut tally = start;
     for i in 0..count {
-        let next = play_header(tally, i, file);
-        tally = next;
+        tally = play_header(rt, tally, i, file)?;
     }
-    tally
+    Ok(tally)
 }
 
-fn report(tally: Tally) {
-    print_part(b"", tally.loads);
-    print_part(b" loads, ", tally.events);
-    print_part(b" events, ", tally.headers);
-    print_part(b" headers: as recorded\n", tally.refusals);
-    print(b" refusals: nothing changed\n");
+fn report(rt: &impl Print, tally: Tally) -> io::Result<()> {
+    let Tally {
+        loads,
+        events,
+        headers,
+        refusals,
+        ..
+    } = tally;
+    println!(rt; "{loads} loads, {events} events, {headers} headers: as recorded")?;
+    println!(rt; "{refusals} refusals: nothing changed")
 }
 
 // The headers, where all cases are as recorded; then the end.
-fn finish(cased: Tally, file: &[u8]) {
-    if cased.good {
-        let at = cased.at;
-        let start = cased.judged(2, true, 0);
-        let tally = play_headers(start, two_at(file, at), file);
-        if tally.good {
-            if tally.at == file.len() {
-                report(tally);
-            } else {
-                print(b"the file does not end behind its last record\n");
-            }
-        }
+fn finish(rt: &impl Print, cased: Tally, file: &[u8]) -> io::Result<()> {
+    if !cased.good {
+        return Ok(());
+    }
+    let at = cased.at;
+    let start = cased.judged(2, true, 0);
+    let tally = play_headers(rt, start, two_at(file, at), file)?;
+    if !tally.good {
+        Ok(())
+    } else if tally.at == file.len() {
+        report(rt, tally)
+    } else {
+        println!(rt; "the file does not end behind its last record")
     }
 }
 
-fn play_file(file: &[u8], image: &mut [u8; 262160]) {
+fn play_file(rt: &impl Print, file: &[u8], image: &mut [u8; 262160]) -> io::Result<()> {
     let start = Tally {
         at: 6,
         loads: 0,
@@ -448,18 +497,19 @@ fn play_file(file: &[u8], image: &mut [u8; 262160]) {
         good: true,
     };
     if file.len() == ROOM {
-        print(b"the file is longer than the room for it\n");
+        println!(rt; "the file is longer than the room for it")
     } else if same(memory::part_of(file, 0, 4), b"BKR1") {
-        finish(play_cases(start, two_at(file, 4), file, image), file);
+        let cased = play_cases(rt, start, two_at(file, 4), file, image)?;
+        finish(rt, cased, file)
     } else {
-        print(b"no recorded answers\n");
+        println!(rt; "no recorded answers")
     }
 }
 
-fn main() {
+fn main(rt: HostRuntime) -> io::Result<()> {
     let mut file = [0u8; ROOM];
     let mut image = [0u8; 262160];
-    let n = io::read_full(0, &mut file);
+    let n = read_full(&rt, &mut file)?;
     fill_image(&mut image);
-    play_file(&file[..n], &mut image);
+    play_file(&rt, &file[..n], &mut image)
 }
