@@ -209,8 +209,7 @@ fn keep(state: &mut [u8], answer: u16, w: Words)
 
 // The calls of a board: decoded, judged in the four parts of `states`, served, and what moved is kept. The
 // judgement stands in each of them, since one function for all would not be compiled into its callers.
-#[unsafe(no_mangle)]
-pub extern "C" fn biekkarul_read<'a>(
+pub fn biekkarul_read<'a>(
     state: &[u8],
     image: &'a [u8],
     prg: &[u8],
@@ -258,8 +257,7 @@ fn write_in(
     Wrote { answer, parts }
 }
 
-#[unsafe(no_mangle)]
-pub extern "C" fn biekkarul_write(
+pub fn biekkarul_write(
     state: &mut [u8],
     image: &[u8],
     prg: &mut [u8],
@@ -274,8 +272,7 @@ pub extern "C" fn biekkarul_write(
 }
 
 // The same write, with the pages that it may have moved above its answer.
-#[unsafe(no_mangle)]
-pub extern "C" fn biekkarul_write_moved(
+pub fn biekkarul_write_moved(
     state: &mut [u8],
     image: &[u8],
     prg: &mut [u8],
@@ -289,8 +286,7 @@ pub extern "C" fn biekkarul_write_moved(
     (wrote.answer as u32) + moved_number(wrote.parts)
 }
 
-#[unsafe(no_mangle)]
-pub extern "C" fn biekkarul_clock(state: &mut [u8]) -> u16
+pub fn biekkarul_clock(state: &mut [u8]) -> u16
     ensures { ClockOwes state.old result state.new }
 {
     let w = words_in(state);
@@ -308,8 +304,7 @@ pub extern "C" fn biekkarul_clock(state: &mut [u8]) -> u16
     answer
 }
 
-#[unsafe(no_mangle)]
-pub extern "C" fn biekkarul_load(
+pub fn biekkarul_load(
     image: &[u8],
     mode: u8,
     state: &mut [u8],
@@ -346,8 +341,7 @@ fn copy_digits(dst: &mut [u64], src: &[u64])
 }
 
 // What the state holds, digit by digit, so that no caller needs to know its bits.
-#[unsafe(no_mangle)]
-pub extern "C" fn biekkarul_digits(state: &[u8], digits: &mut [u64]) -> u16
+pub fn biekkarul_digits(state: &[u8], digits: &mut [u64]) -> u16
     ensures { DigitsOwes state.now digits.old result digits.new }
 {
     let w = words_in(state);
@@ -365,8 +359,7 @@ pub extern "C" fn biekkarul_digits(state: &[u8], digits: &mut [u64]) -> u16
 }
 
 // Where each page is read from, and where a write to it goes, as the state has them.
-#[unsafe(no_mangle)]
-pub extern "C" fn biekkarul_pages(
+pub fn biekkarul_pages(
     state: &[u8],
     first: u8,
     reads: &mut [u32],
@@ -407,8 +400,7 @@ fn put_fields(answer: HeaderAnswer, fields: &mut [u8]) -> u16
     }
 }
 
-#[unsafe(no_mangle)]
-pub extern "C" fn biekkarul_header(image: &[u8], fields: &mut [u8]) -> u16
+pub fn biekkarul_header(image: &[u8], fields: &mut [u8]) -> u16
     ensures { HeaderOwes image.now fields.old result fields.new }
 {
     if fields.len() == 12 {
@@ -419,8 +411,7 @@ pub extern "C" fn biekkarul_header(image: &[u8], fields: &mut [u8]) -> u16
 }
 
 // So that a caller can tell whether this library is the one that its header or wrapper was written for.
-#[unsafe(no_mangle)]
-pub extern "C" fn biekkarul_version() -> u32
+pub fn biekkarul_version() -> u32
     ensures { result ≡ version }
 {
     5
