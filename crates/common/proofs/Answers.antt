@@ -1,7 +1,7 @@
 -- A refusal is the one under its number, and its number the one that it stands under; two mirrorings are one exactly when `same` says so, or their letters do: by all cases. Assumes nothing.
 use Prim.Native.Nat.{ℕ}
 use mathlib.Core.Path.{◌≡◌, refl}
-use mathlib.Core.Bool.{true, false, false≢true}
+use mathlib.Core.Bool.{true, false≢true}
 use mathlib.Core.List.{[], ◌∷◌, map}
 use lib.Dec.{eqb}
 use Rattle.common.specs.Answers.{refusal_number, no, mirroring_letter, same}

@@ -24,7 +24,7 @@ use Rattle.page_laws.proofs.Moves.{write_reads, write_writes}
 use Rattle.page_laws.proofs.MapReads.{map_reads}
 use Rattle.page_laws.proofs.MapWrites.{map_writes}
 use Rattle.exports.specs.Numbers.{refused, write_number, moved_number}
-use Rattle.exports.specs.Bytes.{board_in, is_state, encoded}
+use Rattle.exports.specs.Bytes.{board_in}
 use Rattle.exports.specs.Calls.{read_bytes, writing, told, WriteOwes, WriteMovedOwes, PagesOwes}
 use Rattle.exports.specs.RoundTrip.{WritesAs}
 use Rattle.exports.proofs.RoundTrip.{there_and_back}

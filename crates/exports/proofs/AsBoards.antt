@@ -19,7 +19,6 @@ use Rattle.cartridge.specs.declared.Verdict.{Verdict}
 use Rattle.places.specs.Places.{stored_prg, stored_chr}
 use Rattle.places.specs.declared.Landing.{Landing}
 use Rattle.places.specs.declared.Landing.TheVariants.{At, Refused}
-use Rattle.boards.specs.Registers.{moved, ticked}
 use Rattle.boards.specs.Range.{in_range, is_loaded}
 use Rattle.boards.specs.Read.{read_if, read}
 use Rattle.boards.specs.Write as boards
@@ -34,8 +33,8 @@ use Rattle.states.specs.Kept.{OfItsTypes}
 use Rattle.states.specs.declared.Words.{Words}
 use Rattle.states.proofs.RoundTrip.{digits_there}
 use Rattle.exports.specs.Numbers.{read_number, write_number, clock_number, load_number}
-use Rattle.exports.specs.Bytes.{words_in, bytes_of, board_in, is_state, is_state_for, encoded, state_left}
-use Rattle.exports.specs.Calls.{read_bytes, writing, WriteOwes, ClockOwes, decision, loading, LoadOwes, is_shown, DigitsOwes}
+use Rattle.exports.specs.Bytes.{bytes_of, board_in, is_state, is_state_for, encoded, state_left}
+use Rattle.exports.specs.Calls.{read_bytes, writing, WriteOwes, ClockOwes, decision, loading, LoadOwes, DigitsOwes}
 use Rattle.exports.specs.RoundTrip.{WritesAs, ClocksAs, LoadsAs, ShowsAs}
 use Rattle.exports.proofs.RoundTrip.{encoded_words, there_and_back, is_a_state}
 

@@ -7,7 +7,6 @@ use borrow.Author.Tests.{le-ltb}
 use lib.ListN.{length}
 use Prim.Native.Nat.{ℕ, ◌+◌}
 use Rattle.rules.specs.Flat.{flat_digits}
-use Rattle.rules.proofs.Bools.{either}
 use Rattle.common.specs.Answers.{refusal_number}
 use Rattle.common.specs.declared.Refusal.{Refusal}
 use Rattle.common.specs.declared.Refusal.TheVariants.{RamNot8K, StateOutOfRange}

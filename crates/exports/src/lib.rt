@@ -359,12 +359,7 @@ pub fn biekkarul_digits(state: &[u8], digits: &mut [u64]) -> u16
 }
 
 // Where each page is read from, and where a write to it goes, as the state has them.
-pub fn biekkarul_pages(
-    state: &[u8],
-    first: u8,
-    reads: &mut [u32],
-    writes: &mut [u32],
-) -> u16
+pub fn biekkarul_pages(state: &[u8], first: u8, reads: &mut [u32], writes: &mut [u32]) -> u16
     ensures { PagesOwes state.now first reads.old writes.old result reads.new writes.new }
 {
     let w = words_in(state);

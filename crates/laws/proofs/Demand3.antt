@@ -7,7 +7,7 @@ use Rattle.common.specs.declared.Mode.{Mode}
 use Rattle.common.specs.declared.Mode.TheVariants.{House, Board as OnBoard}
 use Rattle.cartridge.specs.declared.Cartridge.{Cartridge}
 use Rattle.cartridge.specs.declared.MapperType.{MapperType}
-use Rattle.cartridge.specs.declared.MapperType.TheVariants.{Mmc1, Mmc3}
+use Rattle.cartridge.specs.declared.MapperType.TheVariants.{Mmc1}
 use Rattle.mmc1.specs.declared.Mmc1 as mmc1-type
 use Rattle.boards.specs.Registers.{with_mmc1}
 use Rattle.boards.specs.Runs.{next, Call, call, after}

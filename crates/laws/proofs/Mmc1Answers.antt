@@ -1,7 +1,7 @@
 -- What an MMC1 board in range answers, stores and becomes is made of what was loaded, its mirroring and its MMC1 registers: two that agree in these answer alike
 -- for ever. Assumes nothing.
 use Prim.Native.Nat.{ℕ}
-use mathlib.Core.Path.{◌≡◌, refl, sym, ap, ap₂, ◌∙◌, subst⁻¹}
+use mathlib.Core.Path.{◌≡◌, refl, sym, ap, ap₂, ◌∙◌}
 use mathlib.Core.Bool.{true}
 use mathlib.Core.List.{List, [], ◌∷◌}
 use lib.ListN.{length}

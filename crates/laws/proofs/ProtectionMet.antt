@@ -1,6 +1,5 @@
 -- Boards and runs that meet the laws of the marks: a locked board that one write opens, a title that never makes that write, a house title that does; and that in board mode
 -- the condition is needed. Assumes nothing.
-use Prim.Native.Nat.{ℕ}
 use mathlib.Core.Path.{◌≡◌, refl}
 use mathlib.Core.Bool.{true, false}
 use mathlib.Core.List.{List, [], ◌∷◌}

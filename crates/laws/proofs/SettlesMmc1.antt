@@ -6,16 +6,15 @@ use mathlib.Core.Bool.{true, cond, ◌&&◌}
 use mathlib.Core.List.{List, [], ◌∷◌}
 use native.Mathlib.Numerals.{add-one}
 use native.Mathlib.Omega.{arith}
-use lib.Dec.{ltb, eqb}
+use lib.Dec.{ltb}
 use lib.ListN.{take}
-use borrow.Author.Tests.{ltb-false, le-ltb, eqb-true}
+use borrow.Author.Tests.{ltb-false, le-ltb}
 use Rattle.rules.proofs.Bools.{split_3, either}
 use Rattle.common.specs.Common.{is_signed}
 use Rattle.common.proofs.Answers.{same_is}
 use Rattle.common.specs.declared.Mode.{Mode}
 use Rattle.common.specs.declared.Mode.TheVariants.{House, Board as OnBoard}
 use Rattle.common.specs.declared.Mirroring.{Mirroring}
-use Rattle.common.specs.declared.Mirroring.TheVariants.{Horizontal, Vertical, SingleScreenUpper, SingleScreenLower}
 use Rattle.cartridge.specs.Load.{could_load}
 use Rattle.cartridge.specs.Mappers.{is_mapper}
 use Rattle.cartridge.specs.declared.Cartridge.{Cartridge}

@@ -14,7 +14,6 @@ use Rattle.mmc3.specs.Clock.{clock_in, with_irq, clocked}
 use Rattle.mmc3.specs.Write.{applied}
 use Rattle.mmc3.specs.declared.Irq.{Irq}
 use Rattle.mmc3.specs.declared.Mmc3 as mmc3-type
-use Rattle.mmc3.specs.declared.Move.{Move}
 use Rattle.mmc3.specs.declared.Move.TheVariants.{Nothing, Select, Data, Screens, Protect, Latch, Reload, Enable, Disable}
 use Rattle.boards.specs.Runs.{lent, Call, call, after}
 use Rattle.boards.specs.declared.Board.{Board}

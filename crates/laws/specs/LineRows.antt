@@ -1,5 +1,5 @@
 -- M-101's own table, worked out by hand: what a clock of the real board answers while its line is up, what lowers it and what leaves it, and where it may be up.
-use Rattle.std.specs.Prelude.{ℕ, true, List, [], ◌∷◌, ◌++◌, map}
+use Rattle.std.specs.Prelude.{ℕ, true, List, [], ◌∷◌, map}
 use Rattle.common.specs.declared.Mode.{Mode}
 use Rattle.common.specs.declared.Mode.TheVariants.{House, Board as OnBoard}
 use Rattle.mmc3.specs.Clock.{with_line}

@@ -1,5 +1,4 @@
 -- By the test. Assumes nothing.
-use Rattle.rules.proofs.Picks.{picks}
 use native.Mathlib.Omega.{arith}
 use Rattle.exports.proofs.bit.Statement.{statement}
 use Rattle.exports.proofs.bit.Tie as tie

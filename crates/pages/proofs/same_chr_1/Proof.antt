@@ -1,5 +1,4 @@
 -- The same expression. Assumes nothing.
-use Rattle.rules.proofs.Picks.{picks}
 use Rattle.pages.specs.Parts.{same_chr1}
 use Rattle.pages.proofs.same_chr_1.Statement.{statement}
 use Rattle.pages.proofs.same_chr_1.Tie as tie
