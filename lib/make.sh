@@ -12,18 +12,20 @@ toolchain=$(kit >/dev/null && rt version) || fail "the Rattle toolchain (rt) doe
 digest() { LC_ALL=C sort -z | xargs -0 sha256sum | sha256sum; }
 stamp() { # by which toolchain, from which sources and as which bytes the libraries were made
   echo "$toolchain"
-  find crates crates.txt lib/make.sh lib/modules.bash -type f -print0 | digest
+  find crates crates.txt lib/make.sh lib/modules.bash -name out -prune -o -type f -print0 | digest
   find "$made" -type f ! -name stamp -print0 | digest
 }
 [ "$(cat "$made/stamp" 2>/dev/null)" != "$(stamp 2>/dev/null)" ] || exit 0
 
 echo "library: proving its sources, which takes minutes; a line for each crate"
 rm -rf "$made" && mkdir -p "$made" || exit 2
-catch "$made/exports.bc" rt staticlib exports || fail "'rt staticlib exports' does not make it"
+own=crates/exports_c/out/libexports_c.a
+rm -f "$own"
+catch "$made/exports_c.bc" exports_c lib --cpu=x86-64 && [ -f "$own" ] || fail "'rt lib' in crates/exports_c does not make it"
 for processor in "${processors[@]}"; do
-  archived "$made/exports.bc" "$processor" "$made/$processor-linux/libbiekkarul.a" ||
+  archived "$made/exports_c.bc" "$processor" "$made/$processor-linux/libbiekkarul.a" ||
     fail "its module does not compile for $processor"
 done
 # What was caught is what rt has compiled, with the words that rt has for it: they give what rt made, byte for byte.
-cmp "$made/x86_64-linux/libbiekkarul.a" "$made/libexports.a" || fail "lib/modules.bash compiles its module otherwise than rt"
+cmp "$made/x86_64-linux/libbiekkarul.a" "$own" || fail "lib/modules.bash compiles its module otherwise than rt"
 stamp >"$made/stamp"
