@@ -36,10 +36,10 @@ need_c() {
 
 need_cargo() { need "cargo" cargo command -v cargo && need_c; }
 
-# Whether this file is there and no source is newer. For what a proof leaves in target/; the library goes by contents.
-is_fresh() { [ -f "$1" ] && [ -z "$(find crates crates.txt -newer "$1" -print -quit)" ]; }
+# Whether this file is there and no source is newer. For what is made of a proof; the library goes by contents.
+is_fresh() { [ -f "$1" ] && [ -z "$(find crates crates.txt -name out -prune -o -newer "$1" -print -quit)" ]; }
 
-# library_in FOLDER: the static library there: libbiekkarul.a, as it is kept, or libexports.a, as rt calls it.
+# library_in FOLDER: the static library there: libbiekkarul.a, as it is kept, or libexports.a, as lib/make.sh keeps rt's own.
 library_in() {
   local name
   for name in libbiekkarul.a libexports.a; do
@@ -82,10 +82,14 @@ last_run() {
   esac
 }
 
-# program NAME: runs target/bin/NAME, which rt has made for x86-64. On another processor it is run as rt runs it, by the
-# kit's emulator.
-program() {
-  local tools
-  [ "$(uname -m)" != x86_64 ] || { "target/bin/$1"; return; }
-  tools=$(tools) && "$tools/bin/qemu-x86_64" "$tools/lib/ld-linux-x86-64.so.2" --library-path "$tools/lib" "target/bin/$1"
+# make_program NAME: rt proves and builds it, unless it has done so from these sources. It stays as crates/NAME/out/NAME, and
+# rt runs it once, on nothing.
+make_program() {
+  is_fresh "crates/$1/out/$1" || { (cd "crates/$1" && rt run </dev/null >/dev/null) && touch "crates/$1/out/$1"; }
 }
+
+# need_program NAME: the same, told where it fails.
+need_program() { make_program "$1" 2>/dev/null || { echo "rt run in crates/$1 does not make the program: see what it says"; return 1; }; }
+
+# program NAME: runs it.
+program() { "crates/$1/out/$1"; }

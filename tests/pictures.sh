@@ -37,11 +37,11 @@ damaged "from elsewhere" 's|role="img"|href="other.svg"|'
 
 # A crate more is another picture.
 more=$work/more
-mkdir -p "$more/docs/pictures" "$more/crates/axrom/src" "$more/out"
+mkdir -p "$more/docs/pictures" "$more/crates/bnrom/src" "$more/out"
 ln -s "$PWD"/crates/* "$more/crates"
-echo "pub struct Axrom {" >"$more/crates/axrom/src/lib.rt"
+echo "pub struct Bnrom {" >"$more/crates/bnrom/src/lib.rt"
 cp docs/pictures/maps.txt "$more/docs/pictures"
-{ cat crates.txt; echo "axrom: rules places"; } >"$more/crates.txt"
+{ cat crates.txt; echo "bnrom: rules places"; } >"$more/crates.txt"
 (cd "$more" && "$OLDPWD/$draw" out) || fail "a longer crates.txt cannot be drawn"
 ! cmp -s "$more/out/crates.svg" docs/pictures/crates.svg || fail "a longer crates.txt gives the same picture"
 

@@ -5,7 +5,7 @@
 set -uo pipefail
 source "$(dirname "${BASH_SOURCE[0]}")/need.bash" || exit 2
 cd "$(dirname "${BASH_SOURCE[0]}")/.." || exit 2
-[ -x target/bin/tracerun ] || { echo "target/bin/tracerun is not there: run rt check tracerun first"; exit 2; }
+need_program tracerun || exit 2
 dir=$(mktemp -d)
 trap 'rm -rf "$dir"' EXIT
 checks=0

@@ -4,7 +4,7 @@
 set -uo pipefail
 source "$(dirname "${BASH_SOURCE[0]}")/need.bash" || exit 2
 cd "$(dirname "${BASH_SOURCE[0]}")/.." || exit 2
-[ -x target/bin/replay ] || { echo "target/bin/replay is not there: run rt check replay first"; exit 2; }
+need_program replay || exit 2
 work=$(mktemp -d)
 trap 'rm -rf "$work"' EXIT
 file=$work/file

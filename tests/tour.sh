@@ -6,7 +6,7 @@ set -uo pipefail
 source "$(dirname "${BASH_SOURCE[0]}")/need.bash" || exit 2
 cd "$(dirname "${BASH_SOURCE[0]}")/.." || exit 2
 tour=docs/TOUR.md
-[ -x target/bin/tracerun ] || { echo "target/bin/tracerun is not there: run rt check tracerun first"; exit 2; }
+need_program tracerun || exit 2
 links=0 paths=0 crates=0 quotes=0 answers=0 lost=0
 fail() { echo "tour: $1"; lost=$((lost + 1)); }
 

@@ -16,7 +16,7 @@ library=$(library_in "$folder") || exit 1
 work=$(mktemp -d)
 trap 'rm -rf "$work"' EXIT
 tracerun_object "$work/tracerun.o" >"$work/log" 2>&1 ||
-  { tail -n 5 "$work/log"; echo "rt check tracerun does not make the program"; exit 1; }
+  { tail -n 5 "$work/log"; echo "rt run does not make tracerun"; exit 1; }
 
 shipped_beside "$library" "$work/beside.a" && tracerun_within "$work/tracerun.o" "$work/within.o" || exit 1
 mkdir "$work/calls" "$work/traces" && seeds "$work/calls" "$work/traces" || exit 1
@@ -29,7 +29,8 @@ built() { # built NAME LEVEL SOURCE WORDS..: at a level of optimisation
 }
 built plain.o 1 trials/plain.c -c
 built calls-trial 1 trials/calls.c "$work/plain.o" "$library" "$work/beside.a"
-built traces-trial 1 trials/traces.c "$work/plain.o" "$work/within.o"
+# shellcheck disable=SC2046
+built traces-trial 1 trials/traces.c "$work/plain.o" "$work/within.o" $(program_parts)
 
 for name in calls traces; do
   "$work/$name-trial" 20000 "$work/$name"/* >"$work/log" 2>&1 || { cat "$work/log"; echo "$name: not as the model says"; exit 1; }

@@ -19,7 +19,7 @@ manifest=rust/Cargo.toml
 here=$(uname -m)
 kept=lib/$here-linux/libbiekkarul.a
 version=$(sed -n 's/^#define BIEKKARUL_VERSION \([0-9]*\).*/\1/p' include/biekkarul.h)
-kit=$(kit) || exit 1
+kit >/dev/null || exit 1
 sample=rust/examples/worked_case
 passed=0
 failed=0
@@ -146,7 +146,7 @@ finds_every_fault() {
 
 without_std() { cargo "$1" --offline --manifest-path "$manifest" --no-default-features "${@:2}"; }
 
-# The program tracerun, which rt check tracerun builds, prints the same text.
+# The program tracerun prints the same text.
 as_tracerun() { diff <(program tracerun <"$1") <(replay "$1" 2>/dev/null); }
 
 # The build in a folder of its own, whose environment is said before it.
@@ -203,27 +203,29 @@ make_misfits() {
 # does, by the compiler of the kit that it is given.
 repository=$work/repository
 make_repository() {
-  mkdir -p "$repository/crates" "$repository/rust" "$repository/${kept%/*}" "$work/bin"
+  mkdir -p "$repository/crates/exports_c" "$repository/rust" "$repository/${kept%/*}" "$work/bin"
+  ln -s "$(tools)" "$work/toolchain"
   touch "$repository/crates.txt"
   echo one >"$repository/crates/source"
   cp "$library" "$repository/$kept"
   cp lib/make.sh lib/modules.bash "$repository/lib"
   cp -r rust/src rust/build rust/build.rs rust/Cargo.toml rust/Cargo.lock "$repository/rust"
   : >"$work/runs"
-  echo "define i32 @biekkarul_version() { ret i32 $version }" >"$work/exports.bc"
+  echo "define i32 @biekkarul_version() { ret i32 $version }" >"$work/exports_c.bc"
   cat >"$work/bin/rt" <<END
 #!/usr/bin/env bash
 [ "\$*" != version ] || { echo "a stand-in"; exit; }
 echo "\$*" >>"$work/runs"
 echo "rt: it says this" >&2
-[ ! -e "$work/broken" ] && source lib/modules.bash && archived "$work/exports.bc" x86_64 target/staticlib/libexports.a || exit
-[ ! -e "$work/otherwise" ] || echo >>target/staticlib/libexports.a
+PATH=\${0%/*}:\$PATH
+[ ! -e "$work/broken" ] && source ../../lib/modules.bash && archived "$work/exports_c.bc" x86_64 out/libexports_c.a || exit
+[ ! -e "$work/otherwise" ] || echo >>out/libexports_c.a
 END
   chmod +x "$work/bin/rt"
 }
 
 build_there() { # an empty BIEKKARUL_LIB is as none
-  BIEKKARUL_LIB='' RATTLE_HOME=$kit PATH="$work/bin:$PATH" cargo build --offline \
+  BIEKKARUL_LIB='' PATH="$work/bin:$PATH" cargo build --offline \
     --manifest-path "$repository/rust/Cargo.toml" --target-dir "$work/there" "$@"
 }
 prove_there() { BIEKKARUL_PROVE=1 build_there "$@"; }
@@ -231,21 +233,21 @@ prove_there() { BIEKKARUL_PROVE=1 build_there "$@"; }
 runs_rt() { # runs_rt COUNT COMMAND..: the command succeeds; rt has then made the library so often in all
   local count=$1
   shift
-  "$@" && [ "$(grep -cxF "staticlib exports" "$work/runs")" -eq "$count" ]
+  "$@" && [ "$(grep -cxF -- "lib --cpu=x86-64" "$work/runs")" -eq "$count" ]
 }
 
 # On a terminal, a line of rt comes through while cargo builds. `script` runs its command by $SHELL; another
 # shell than bash would not pass the functions on.
 shows_rt() {
   export -f prove_there build_there
-  export work repository kit
+  export work repository
   SHELL=$BASH script --quiet --return --command prove_there /dev/null </dev/null >"$work/terminal"
   local got=$?
   cat "$work/terminal"
   [ "$got" -eq 0 ] && grep -q "biekkarul: it says this" "$work/terminal"
 }
 
-tests_make_it() { (cd "$repository" && BIEKKARUL_LIB='' RATTLE_HOME=$kit PATH="$work/bin:$PATH" library_folder); }
+tests_make_it() { (cd "$repository" && BIEKKARUL_LIB='' PATH="$work/bin:$PATH" library_folder); }
 
 # Another content with an old time, and the same content with a new one.
 change_a_source() { echo "$RANDOM $RANDOM" >"$repository/crates/source" && touch -d "1 year ago" "$repository/crates/source"; }
@@ -401,7 +403,7 @@ step "the shop's runs are taken up again" says 0 \
 step "the shop finds every board that was changed" finds_every_fault
 step "the shop knows no other option" says 2 "shop: usage: shop [--fault]" shop --faults
 
-step "target/bin/tracerun is there (rt check tracerun)" test -x target/bin/tracerun
+step "tracerun is there" need_program tracerun
 for file in "$sample.trace" "$work"/{empty,truncated,one_short,one_long,zeros,no_magic,game}; do
   step "tracerun's text of ${file##*/}" as_tracerun "$file"
 done
@@ -453,7 +455,7 @@ change_a_source
 touch "$work/otherwise"
 step "an rt that compiles otherwise" fails_with "compiles its module otherwise than rt" prove_there
 touch "$work/broken"
-step "a failing rt" fails_with "'rt staticlib exports' does not make it" prove_there
+step "a failing rt" fails_with "'rt lib' in crates/exports_c does not make it" prove_there
 step "it is told what rt says" fails_with "rt: it says this" prove_there
 rm "$repository/$kept"
 step "a repository without the library" fails_with "BIEKKARUL_PROVE=1 makes it from the sources" build_there

@@ -59,11 +59,12 @@ echo "proving and catching what is tried"
 unset BIEKKARUL_LIB # the shipped library and the instrumented one are of one proof
 library=$(library_folder 2>"$work/exports.log") && library=$(library_in "$library") || { tail -n 5 "$work/exports.log"; exit 1; }
 tracerun_module >"$work/tracerun.log" 2>&1 || { tail -n 5 "$work/tracerun.log"; echo "the module of tracerun was not caught"; exit 1; }
-instrumented target/staticlib/exports.bc && instrumented "$work/tracerun.bc" || exit 1
+instrumented target/staticlib/exports_c.bc && instrumented "$work/tracerun.bc" || exit 1
 shipped_beside "$library" "$work/beside.a" && tracerun_within "$work/tracerun.o" "$work/within.o" || exit 1
-linked calls trials/calls.c "$work/exports.o" "$work/beside.a" || exit 1
-linked short trials/calls.c -DLENT_SHORT=1 "$work/exports.o" "$work/beside.a" || exit 1
-linked traces trials/traces.c "$work/within.o" || exit 1
+linked calls trials/calls.c "$work/exports_c.o" "$work/beside.a" || exit 1
+linked short trials/calls.c -DLENT_SHORT=1 "$work/exports_c.o" "$work/beside.a" || exit 1
+# shellcheck disable=SC2046
+linked traces trials/traces.c "$work/within.o" $(program_parts) || exit 1
 
 seeds "$work/corpus/calls" "$work/corpus/traces"
 
@@ -80,7 +81,7 @@ find_faults() {
   rm -rf "$work/fault" && mkdir -p "$work/fault/new" && cp trials/calls.c trials/lent.h "$work/fault" || return
   while fault; do
     count=$((count + 1))
-    linked faulty "$work/fault/calls.c" "$work/exports.o" "$work/beside.a" || return
+    linked faulty "$work/fault/calls.c" "$work/exports_c.o" "$work/beside.a" || return
     if "$work/faulty" -max_total_time=60 -max_len=1024 -artifact_prefix="$work/fault/" "$work/fault/new" "$work/corpus/calls" >"$work/fault/log" 2>&1 ||
       ! grep -q '^broken at ' "$work/fault/log"; then
       echo "not found: $old => $new"

@@ -248,23 +248,21 @@ shipped_beside() {
 # target/trials/tracerun.bc: the module that tracerun is compiled from.
 tracerun_module() {
   is_fresh target/trials/tracerun.bc && return
-  mkdir -p target/trials && rm -f target/stamp/tracerun # so that it is compiled anew
-  catch target/trials/tracerun.bc rt check tracerun
+  mkdir -p target/trials && rm -f crates/tracerun/out/tracerun # so that it is compiled anew
+  catch target/trials/tracerun.bc tracerun run </dev/null
 }
 
-# tracerun_object TO: the machine code of tracerun for this processor. For x86-64 it is the one that rt links.
-tracerun_object() {
-  if [ "$(uname -m)" = x86_64 ]; then
-    is_fresh target/obj/tracerun.o || rt check tracerun && cp target/obj/tracerun.o "$1"
-  else
-    tracerun_module && compiled target/trials/tracerun.bc "$(uname -m)" "$1"
-  fi
-}
+# tracerun_object TO: the machine code of tracerun, the one that rt links.
+tracerun_object() { make_program tracerun && cp crates/tracerun/out/tracerun.o "$1"; }
 
-# tracerun_within OBJECT TO: tracerun's machine code with the names that traces.c has for its main, its reads and its writes.
+# tracerun_within OBJECT TO: tracerun's machine code with the names that traces.c has for its main, its reads, seeks and writes.
 tracerun_within() {
-  objcopy --redefine-sym main=tracerun_main --redefine-sym read=tracerun_read --redefine-sym write=tracerun_write "$1" "$2"
+  objcopy --redefine-sym main=tracerun_main --redefine-sym read=tracerun_read --redefine-sym lseek=tracerun_lseek \
+    --redefine-sym write=tracerun_write "$1" "$2"
 }
+
+# What rt links a program against besides the C library.
+program_parts() { local kit && kit=$(kit) && echo "$kit/c/libos_c.a" "$kit/c/liblibc_c.a"; }
 
 # faults: the lines of faults.txt that are one.
 faults() { grep -v -e '^#' -e '^$' trials/faults.txt; }

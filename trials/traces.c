@@ -1,10 +1,11 @@
 /*
  * A trial of the program tracerun: its main stands here as tracerun_main, reads the trace that the input describes
- * and writes its text into a buffer of ours. The text is held to what a player of the same trace says, written here after
+ * from what cannot seek, and writes its text into a buffer of ours. The text is held to what a player of the same trace says, written here after
  * document 01 over the model of the boards.
  */
 #include "lent.h"
 
+#include <errno.h>
 #include <stdarg.h>
 #include <sys/types.h>
 #include <unistd.h>
@@ -21,7 +22,7 @@ static uint8_t trace[MOST_TRACE], said[MOST_TEXT];
 static char wanted[MOST_TEXT];
 static size_t trace_length, trace_read, said_length, wanted_length;
 
-/* tracerun's read and write, in place of the C library's; a read gives as little as the input asks for. */
+/* tracerun's read, lseek and write, in place of the C library's; a read gives as little as the input asks for. */
 static size_t most_at_once;
 
 ssize_t tracerun_read(int from, void *to, size_t length) {
@@ -32,6 +33,13 @@ ssize_t tracerun_read(int from, void *to, size_t length) {
     memcpy(to, trace + trace_read, n);
     trace_read += n;
     return (ssize_t)n;
+}
+
+off_t tracerun_lseek(int from, off_t place, int whence) {
+    MUST(from == 0);
+    (void)place, (void)whence;
+    errno = ESPIPE;
+    return -1;
 }
 
 ssize_t tracerun_write(int to, const void *from, size_t length) {

@@ -227,7 +227,7 @@ fn kind_of(name: &str) -> Result<Kind, String> {
     }
     let path = folder.join("lib.rt");
     let source = fs::read_to_string(&path).map_err(|error| format!("{}: {error}", path.display()))?;
-    let is_code = |line: &str| !line.trim().is_empty() && !line.trim_start().starts_with("//");
+    let is_code = |line: &str| !line.trim().is_empty() && !line.trim_start().starts_with("//") && !line.starts_with("#![");
     Ok(if source.lines().any(is_code) { Kind::Library } else { Kind::Theorems })
 }
 
@@ -245,7 +245,8 @@ fn crates_of(text: &str) -> Result<Vec<Crate>, String> {
                 None => outside.push(word),
             }
         }
-        let name = name.trim().to_string();
+        // a word after the name says what is made of the crate
+        let name = name.split_whitespace().next().unwrap_or_default().to_string();
         if crates.iter().any(|c| c.name == name) {
             return Err(format!("crates.txt has {name} twice"));
         }

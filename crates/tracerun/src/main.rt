@@ -11,7 +11,7 @@ fn main(rt: HostRuntime) -> io::Result<()> {
     let mut chr = [0u8; 8192];
     // No text is longer than this.
     let mut text = [0u8; 16384];
-    let n = read_full(&rt, &mut input)?;
+    let n = read_full(&rt, &mut input);
     let count = traces::run(&input[..n], &mut prg, &mut chr, &mut text);
     // What could not be written is told where it can be read.
     if rt.write_all(&text[..count]).is_err() {

@@ -1,23 +1,22 @@
-// Standard input, read into a caller's room: to its end, or until the room is full.
+// Standard input, read into a caller's room: until the room is full, the input ends or a read fails.
 #![tactic(auto)]
 
-ghost use Rattle.std.specs.Prelude.{◌≤◌, length, IfOk};
+ghost use Rattle.std.specs.Prelude.{◌≤◌, length};
 
-use std::io;
 use std::io::Read;
 
-// How many bytes came. A read that fails gives its error.
-pub fn read_full(rt: &impl Input, room: &mut [u8]) -> io::Result<usize>
-    ensures { IfOk result (λ n. n ≤ length room.new) }
+// How many bytes came.
+pub fn read_full(rt: &impl Input, room: &mut [u8]) -> usize
+    ensures { result ≤ length room.new }
 {
     let mut reader = rt.reader();
     let mut n = 0;
     for _ in 0..u64::MAX {
-        let got = reader.read(&mut room[n..])?;
+        let got = reader.read(&mut room[n..]).unwrap_or(0);
         if got == 0 {
             break;
         }
         n += got;
     }
-    Ok(n)
+    n
 }
