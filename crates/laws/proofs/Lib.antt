@@ -19,6 +19,7 @@ pub mod ProtectionRows
 pub mod Clocks
 pub mod PublicClocks
 pub mod ThreeWrites
+pub mod LowLine
 pub mod Unique
 pub mod Ranges
 pub mod Loadable

@@ -19,13 +19,12 @@ use Rattle.boards.specs.Runs.{lent, Call, call, after}
 use Rattle.boards.specs.declared.Board.{Board}
 use Rattle.boards.specs.declared.Event.TheVariants.{Write, Clock}
 use Rattle.laws.specs.Clocks.{Plays, Ready, says_yes, line_up, raises}
-use Rattle.laws.specs.Deeds.{Deed, deeds, NoneAmong}
+use Rattle.laws.specs.Deeds.{Deed, deeds}
 use Rattle.laws.specs.Deeds.Deed.{rests, writes, clocks}
 use Rattle.laws.specs.PLines.{mmc3 as mmc3_image, ram, load_of, calls_of}
 use Rattle.laws.specs.ThreeWrites.{Written}
 use Rattle.laws.proofs.Clocks.{clock_keeps}
 use Rattle.laws.proofs.Deeds.{plays_after, mmc3_after, made, a_write}
-use Rattle.laws.proofs.Line.{only_a_clock_raises}
 use Rattle.laws.proofs.Opened.{opened}
 use Rattle.laws.proofs.PublicClocks.{house_rule, board_rule, board_raises}
 
@@ -89,11 +88,6 @@ pub board_clocks_after_three_writes : (b : Board) → Plays OnBoard b → (cs : 
     → (says_yes k (after b cs) ≡ true) ↔ (n + 1 ≤ k)
 board_clocks_after_three_writes b p cs n w low k = board_rule (after b cs) n k (three_writes_ready OnBoard b p cs n w) low
 
--- the same from a line that was low before the writes, where no clock is among them
-pub board_clocks_from_a_low_line : (b : Board) → Plays OnBoard b → (cs : List Call) (n : ℕ) → Written n b cs → NoneAmong b cs clocks → line_up b ≡ false → (k : ℕ)
-    → (says_yes k (after b cs) ≡ true) ↔ (n + 1 ≤ k)
-board_clocks_from_a_low_line b p cs n w none low k = board_clocks_after_three_writes b p cs n w (only_a_clock_raises OnBoard b p cs none low) k
-
 -- board, the rule of document 01, which is one about raising now: "After the same three writes clock k answers yes exactly when n + 1 divides k"
 pub board_raises_after_three_writes : (b : Board) → Plays OnBoard b → (cs : List Call) (n : ℕ) → Written n b cs → (k : ℕ) → 1 ≤ k
     → (raises k (after b cs) ≡ true) ↔ (n + 1 ∣ k)
@@ -127,10 +121,10 @@ no_disable (suc (suc (suc zero))) h e = let z : ◌≡◌ {A = ℕ} 0 1 = cc in 
 no_disable (suc (suc (suc (suc zero)))) h e = let z : ◌≡◌ {A = ℕ} 0 1 = cc in omega arith
 no_disable (suc (suc (suc (suc (suc j))))) h e = let z : ◌≡◌ {A = ℕ} 0 1 = cc in omega arith
 
-abbrev fresh : Mode → Board
+abbrev pub fresh : Mode → Board
 fresh mode = (load_of mode mmc3_image).board
 
-abbrev calls : List Call
+abbrev pub calls : List Call
 calls = calls_of mmc3_image (Clock ∷ Write 0xE001 0 ∷ Write 0xC001 0 ∷ Write 0xC000 2 ∷ []) ++ call (lent mmc3_image [] ram) (Write 0xE000 0) ∷ []
 
 done_by : (mode : Mode) → deeds (fresh mode) calls ≡ done
@@ -152,7 +146,7 @@ met_writes mode =
       no_disable_after = λ j h e. no_disable j h (ap (λ (ds : List Deed). get_or ds j rests) (sym (done_by mode)) ∙ e);
     }
 
-plays : (mode : Mode) → Plays mode (fresh mode)
+pub plays : (mode : Mode) → Plays mode (fresh mode)
 unfolding opened
 plays House = record { in_mode = refl; is_mmc3 = refl; is_in_range = refl }
 plays OnBoard = record { in_mode = refl; is_mmc3 = refl; is_in_range = refl }
@@ -161,13 +155,6 @@ plays OnBoard = record { in_mode = refl; is_mmc3 = refl; is_in_range = refl }
 pub met : (k : ℕ) → (says_yes k (after (fresh House) calls) ≡ true) ↔ ((2 ≤ k) × (3 ∣ k - 1))
 met k = house_clocks_after_three_writes (fresh House) (plays House) calls 2 (met_writes House) k
 
--- and in board mode the line is up from clock 3 onward, and raised exactly when 3 divides k
-met_low : line_up (after (fresh OnBoard) calls) ≡ false
-unfolding opened
-met_low = refl
-
-pub met_on_board : (k : ℕ) → (says_yes k (after (fresh OnBoard) calls) ≡ true) ↔ (3 ≤ k)
-met_on_board k = board_clocks_after_three_writes (fresh OnBoard) (plays OnBoard) calls 2 (met_writes OnBoard) met_low k
-
+-- and in board mode the line is raised exactly when 3 divides k
 pub met_raises : (k : ℕ) → 1 ≤ k → (raises k (after (fresh OnBoard) calls) ≡ true) ↔ (3 ∣ k)
 met_raises k h = board_raises_after_three_writes (fresh OnBoard) (plays OnBoard) calls 2 (met_writes OnBoard) k h
