@@ -1,6 +1,7 @@
 #!/usr/bin/env bash
 # Writes the table "Size and effort" of docs/BENCHMARKS.md: the lines of each crate, and what its check takes.
-# Every crate is proved anew, one at a time, over crates that are proved already.
+# Every crate is proved anew, one at a time, over crates that are proved already. rt takes what checks kept in other copies of
+# the repository on this machine: have none.
 set -uo pipefail
 source "$(dirname "${BASH_SOURCE[0]}")/../tests/need.bash" || exit 2
 cd "$(dirname "${BASH_SOURCE[0]}")/.." || exit 2
@@ -25,13 +26,14 @@ failed() { # failed WHAT: with the end of its log
   exit 1
 }
 echo "proving what is not proved yet" >&2
-rt check >"$work/log" 2>&1 || failed "rt check"
+rt all check >"$work/log" 2>&1 || failed "rt all check"
 code=0 definitions=0 proof=0 seconds=0
 while IFS=: read -r name _; do
+  name=${name%% *} # a word after the name says what is made of the crate
   case $name in '' | '#'*) continue ;; esac
-  rm -f "target/stamp/$name"
+  rm -rf "crates/$name/out"
   # rt runs the crate's check as a process of its own, so the greatest process is the check
-  /usr/bin/time -f '%U %S %M' -o "$work/time" rt check "$name" </dev/null >"$work/log" 2>&1 || failed "rt check $name"
+  (cd "crates/$name" && /usr/bin/time -f '%U %S %M' -o "$work/time" rt check </dev/null >"$work/log" 2>&1) || failed "rt check in crates/$name"
   read -r user system memory < <(tail -n 1 "$work/time")
   c=$(lines '*.rt' "crates/$name/src") d=$(lines '*.antt' "crates/$name/specs") p=$(lines '*.antt' "crates/$name/proofs")
   spent=$(awk -v u="$user" -v s="$system" 'BEGIN { printf "%.0f", u + s }')

@@ -1,7 +1,7 @@
 //! Finds the static library and tells cargo to link it, as `libbiekkarul.a`:
 //!
-//! 1. `BIEKKARUL_LIB` names a folder: the library in it, be it called `libbiekkarul.a` or, as `rt` calls it,
-//!    `libexports.a`. A relative name counts from the folder where cargo is started; empty is as unset.
+//! 1. `BIEKKARUL_LIB` names a folder: the library in it, be it called `libbiekkarul.a` or, as `lib/make.sh`
+//!    keeps what `rt` made, `libexports.a`. A relative name counts from the folder where cargo is started; empty is as unset.
 //! 2. `BIEKKARUL_PROVE=1`: the library is made from the repository's sources by `lib/make.sh`, which proves them
 //!    and takes minutes. It is made again where the sources, the toolchain or the library have other contents than
 //!    when it was made; file times say nothing.

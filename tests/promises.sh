@@ -54,7 +54,7 @@ while IFS= read -r row; do
   rows[$held]=$((rows[$held] + 1))
   case $held in
   theorem | computed) named='/proofs/' ;;
-  run) named='`(tests/|rt check )' ;;
+  run) named='`(tests/|rt ci )' ;;
   *) continue ;;
   esac
   [[ $row =~ $named ]] || { echo "$page says $held and names none: ${row:0:80}"; lost=$((lost + 1)); }

@@ -1,7 +1,7 @@
 #!/usr/bin/env bash
 # The published MMC3 IRQ tests as traces in board mode: tests/published/*.steps has the steps of each check with the
 # result that the check asks for, as we know it (docs/OPEN.md). Of the six ROMs 3 and 4 test the PPU's address line and its timing, which are not
-# part of a board here. Runs after `rt ci`, which leaves target/bin/tracerun.
+# part of a board here.
 set -uo pipefail
 source "$(dirname "${BASH_SOURCE[0]}")/need.bash" || exit 2
 cd "$(dirname "${BASH_SOURCE[0]}")/.." || exit 2

@@ -1,6 +1,6 @@
 #!/usr/bin/env bash
 # The program replay finds a recorded answer that was changed, and names its place; a file that is cut, goes on or is
-# another is found too. Runs after `rt ci`, which leaves target/bin/replay.
+# another is found too.
 set -uo pipefail
 source "$(dirname "${BASH_SOURCE[0]}")/need.bash" || exit 2
 cd "$(dirname "${BASH_SOURCE[0]}")/.." || exit 2

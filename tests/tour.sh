@@ -1,7 +1,7 @@
 #!/usr/bin/env bash
 # The pages are true of the tree. Of README.md, CHANGELOG.md and the pages in docs/: every relative link leads to a file. Of docs/TOUR.md also: every
 # path in backticks is there, every crate that a command names is in crates.txt, every quotation stands in its file word for
-# word, and every command that it shows with an answer gives that answer. Runs after `rt ci`, which leaves target/bin/tracerun.
+# word, and every command that it shows with an answer gives that answer.
 set -uo pipefail
 source "$(dirname "${BASH_SOURCE[0]}")/need.bash" || exit 2
 cd "$(dirname "${BASH_SOURCE[0]}")/.." || exit 2
@@ -19,10 +19,10 @@ for page in README.md CHANGELOG.md docs/*.md docs/changes/*.md; do
   done < <(grep -oE '\]\([^)]+\)' "$page" | sed 's/^](//; s/)$//')
 done
 
-# ---- paths: every word in backticks that has a slash or is a file's name; what is made by a run stands in target/
+# ---- paths: every word in backticks that has a slash or is a file's name; what is made by a run stands in target/ or in out/
 while IFS= read -r word; do
   case $word in
-  target/* | proofs/ | specs/) continue ;;
+  target/* | */out/* | proofs/ | specs/) continue ;;
   */* | *.txt | *.md) ;;
   *) continue ;;
   esac
@@ -30,11 +30,11 @@ while IFS= read -r word; do
   [ -e "$word" ] || fail "$tour names $word, which is not there"
 done < <(grep -oE '`[^`]+`' "$tour" | tr -d '\140' | tr ' ' '\n' | sed 's/[,;:]$//')
 
-# ---- crates: rt dev NAME, rt check NAME, rt must-fail NAME
+# ---- crates: rt ci NAME, rt must-fail NAME
 while read -r _ _ name; do
   crates=$((crates + 1))
-  grep -q "^$name:" crates.txt || fail "$tour has a command for the crate $name, which is not in crates.txt"
-done < <(grep -oE 'rt (dev|check|must-fail) [a-z0-9_]+' "$tour")
+  grep -qE "^$name( staticlib)?:" crates.txt || fail "$tour has a command for the crate $name, which is not in crates.txt"
+done < <(grep -oE 'rt (ci|must-fail) [a-z0-9_]+' "$tour")
 
 # ---- quotations: a fenced block after a line that ends in `FILE`: and a colon; indentation aside
 flat() { sed 's/^[[:space:]]*//' "$@"; }
@@ -44,13 +44,12 @@ quoted() { # quoted FILE BLOCK
   whole=$(flat "$1")
   [[ $'\n'$whole$'\n' == *$'\n'"$(flat <<<"$2")"$'\n'* ]] || fail "$tour quotes $1 otherwise than it stands there"
 }
-# ---- answers: a block of the kind console, a command after '$ ' and the lines that it prints. A program in target/bin is
-# run as this processor can.
+# ---- answers: a block of the kind console, a command after '$ ' and the lines that it prints.
 answered() { # answered BLOCK
   answers=$((answers + 1))
   local command=${1%%$'\n'*}
   command=${command#\$ }
-  [ "$(eval "${command//target\/bin\//program }")" = "${1#*$'\n'}" ] || fail "$tour shows another answer than this command gives: $command"
+  [ "$(eval "$command")" = "${1#*$'\n'}" ] || fail "$tour shows another answer than this command gives: $command"
 }
 file='' fence='' block='' before=''
 while IFS= read -r line; do

@@ -1,6 +1,6 @@
 #!/usr/bin/env bash
 # tracerun on traces of every board, and on inputs that are no trace. The expected answers are worked out by hand from
-# document 01 and from M-100, M-101 and M-111 of document 02. Runs after `rt ci`, which leaves target/bin/tracerun.
+# document 01 and from M-100, M-101 and M-111 of document 02.
 set -uo pipefail
 source "$(dirname "${BASH_SOURCE[0]}")/need.bash" || exit 2
 cd "$(dirname "${BASH_SOURCE[0]}")/.." || exit 2
