@@ -58,7 +58,7 @@ clang_for() { "$(tools)/bin/clang" --target="$1-unknown-linux-gnu" --no-default-
 # text_of MODULE PROCESSOR: the module as text, which names no kind of x86-64 processor.
 text_of() {
   clang_for "$2" -Wno-override-module -S -emit-llvm -O0 -Xclang -disable-llvm-passes -o - "$1" |
-    sed 's/ "target-cpu"="x86-64"//'
+    sed 's/ "target-cpu"="x86-64[^"]*"//'
 }
 
 # The words with which rt has a module compiled, and those that only an x86-64 compiler takes. lib/make.sh sees that they are.

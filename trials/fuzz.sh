@@ -35,16 +35,26 @@ need "clang's sanitizers" "libclang-rt-${version%%.*}-dev" links_with_sanitizers
 work=$PWD/target/trials
 mkdir -p "$work/corpus/calls" "$work/corpus/traces" || exit 2
 
+# all_watched TEXT: every function of the module has attributes by which the sanitizer watches it.
+all_watched() {
+  local defines group
+  defines=$(grep '^define ' "$1") && ! grep -qvE ' #[0-9]+ ' <<<"$defines" || return
+  for group in $(grep -oE ' #[0-9]+ ' <<<"$defines" | sort -u); do
+    grep -q "^attributes $group = { sanitize_address" "$1" || return
+  done
+}
+
 # instrumented MODULE: target/trials/NAME.o, compiled as rt does, with the sanitizer and with coverage.
 instrumented() {
-  local name
+  local name names
   name=$(basename "$1" .bc)
-  text_of "$1" "$(uname -m)" | sed 's/^attributes #0 = { nounwind/& sanitize_address/' >"$work/$name.ll" &&
-    grep -q '^attributes #0 = .* sanitize_address' "$work/$name.ll" &&
+  # the attributes of its functions are those that ask for a stack probe
+  text_of "$1" "$(uname -m)" | sed '/^attributes .*"probe-stack"/s/ = { / = { sanitize_address /' >"$work/$name.ll" &&
+    grep -q '^attributes #0 = { sanitize_address' "$work/$name.ll" &&
     clang_for "$(uname -m)" "${as_rt[@]}" -fsanitize=address \
       -fsanitize-coverage=inline-8bit-counters,pc-table,trace-cmp -o "$work/$name.o" "$work/$name.ll" &&
-    nm "$work/$name.o" | grep -q __sanitizer_cov_8bit_counters_init && nm "$work/$name.o" | grep -q __asan_report_load &&
-    nm "$work/$name.o" | grep -q __asan_report_store && ! grep '^define ' "$work/$name.ll" | grep -qv ' #0 ' ||
+    names=$(nm "$work/$name.o") && grep -q __sanitizer_cov_8bit_counters_init <<<"$names" && grep -q __asan_report_load <<<"$names" &&
+    grep -q __asan_report_store <<<"$names" && all_watched "$work/$name.ll" ||
     { echo "the module of $name cannot be instrumented"; return 1; }
 }
 

@@ -203,7 +203,7 @@ struct Crate {
 
 /// The way from the exported library to the shop: name, what is said under it, what it stands on.
 const CALLERS: [(&str, &str, &[&str]); 4] = [
-    ("libbiekkarul.a", "kept in lib/", &["exports"]),
+    ("libbiekkarul.a", "kept in lib/", &["exports_c"]),
     ("biekkarul.h", "for C, in include/", &["libbiekkarul.a"]),
     ("wrapper", "for Rust, in rust/", &["libbiekkarul.a"]),
     ("the shop's server", "in Rust, or in C", &["wrapper", "biekkarul.h"]),
