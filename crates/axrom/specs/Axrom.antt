@@ -4,7 +4,9 @@ use Rattle.common.specs.declared.Mirroring.{Mirroring}
 use Rattle.common.specs.declared.Mirroring.TheVariants.{SingleScreenUpper, SingleScreenLower}
 use Rattle.common.specs.declared.Mirrors.TheVariants.{AsBefore, As}
 use Rattle.cartridge.specs.declared.Cartridge.{Cartridge}
-use Rattle.places.specs.Windows.{Window, whole_banks, board_chr_ram}
+use Rattle.places.specs.Whole.{whole_banks}
+use Rattle.places.specs.Windows.{Window, board_chr_ram}
+use Rattle.places.specs.declared.Landing.{Landing}
 use Rattle.axrom.specs.declared.Axrom.{Axrom}
 use Rattle.axrom.specs.declared.Wrote.{Wrote}
 
@@ -21,8 +23,8 @@ abbrev pub fits : Axrom → Bool
 fits u = ltb u.bank 8
 
 -- "a 32 KB PRG bank"; CHR has no register: its bank is the first
-abbrev pub read_window : Axrom → ℕ → Window
-read_window u a = whole_banks 0 u.bank a
+abbrev pub read_place : Axrom → Cartridge → ℕ → Landing
+read_place u c a = whole_banks c 0 u.bank a
 
 -- "CHR is as on the other boards; 2000-7FFF .. ignores writes"
 abbrev pub write_window : Cartridge → ℕ → Window

@@ -3,7 +3,7 @@
 
 ghost use Rattle.std.specs.Prelude.{◌≡◌};
 ghost use Rattle.places.specs.Windows.{lands_in};
-ghost use Rattle.axrom.specs.Axrom.{start, is_start, fits, read_window, write_window, screen, written};
+ghost use Rattle.axrom.specs.Axrom.{start, is_start, fits, read_place, write_window, screen, written};
 
 use banks::{Bank8K, Bank32K};
 use cartridge::Cartridge;
@@ -52,7 +52,7 @@ impl Axrom {
     }
 
     pub fn read_landing(self, cart: Cartridge, address: u16) -> Landing
-        ensures { result ≡ lands_in cart (read_window self address) address }
+        ensures { result ≡ read_place self cart address }
     {
         places::whole_banks(cart, Bank8K(0), Bank32K(self.bank as u32), address)
     }

@@ -1,7 +1,9 @@
 -- GxROM, document 02, M-106: what a read and a write find at an address, and what a write leaves. Board mode only.
 use Rattle.std.specs.Prelude.{ℕ, ◌/◌, ◌%◌, Bool, cond, ◌&&◌, ltb, eqb}
 use Rattle.cartridge.specs.declared.Cartridge.{Cartridge}
-use Rattle.places.specs.Windows.{Window, whole_banks, board_chr_ram}
+use Rattle.places.specs.Whole.{whole_banks}
+use Rattle.places.specs.Windows.{Window, board_chr_ram}
+use Rattle.places.specs.declared.Landing.{Landing}
 use Rattle.gxrom.specs.declared.Gxrom.{Gxrom}
 
 -- document 01: "Registers start at 0"
@@ -17,8 +19,8 @@ abbrev pub fits : Gxrom → Bool
 fits g = ltb g.prg 4 && ltb g.chr 4
 
 -- a "CHR bank" and a "32 KB PRG bank"
-abbrev pub read_window : Gxrom → ℕ → Window
-read_window g a = whole_banks g.chr g.prg a
+abbrev pub read_place : Gxrom → Cartridge → ℕ → Landing
+read_place g c a = whole_banks c g.chr g.prg a
 
 -- "CHR is as on the other boards; 2000-7FFF .. ignores writes"
 abbrev pub write_window : Gxrom → Cartridge → ℕ → Window

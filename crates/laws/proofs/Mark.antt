@@ -23,7 +23,7 @@ use Rattle.cartridge.specs.declared.Verdict.{Verdict}
 use Rattle.cartridge.specs.declared.Verdict.TheVariants.{Take, Refuse}
 use Rattle.places.specs.Places.{in_prg, in_chr, byte_of, byte_at}
 use Rattle.places.specs.Windows.{Window, lands_in}
-use Rattle.places.specs.Windows.Window.{Prg32K, Prg16K, Prg8K, Chr8K, Chr4K, Chr1K, PrgRam, ChrRam, Empty, Refused as NoWindow}
+use Rattle.places.specs.Windows.Window.{Prg16K, Prg8K, Chr8K, Chr4K, Chr1K, PrgRam, ChrRam, Empty, Refused as NoWindow}
 use Rattle.places.specs.declared.Place.{Place}
 use Rattle.places.specs.declared.Place.TheVariants.{Prg, Chr, PrgRam as InPrgRam, ChrRam as InChrRam, Nowhere}
 use Rattle.places.specs.declared.Landing.{Landing}
@@ -76,7 +76,6 @@ windows_alike OnBoard Mmc3 x y r c a = (refl, refl)
 
 lands_alike : (x : Bool) (c : Cartridge) (w : Window) (a : ℕ) → lands_in (cart_marked x c) w a ≡ lands_in c w a
 unfolding lands_in in_prg in_chr chr_total
-lands_alike x c (Prg32K n) a = refl
 lands_alike x c (Prg16K n) a = refl
 lands_alike x c (Prg8K n) a = refl
 lands_alike x c (Chr8K n) a = refl

@@ -7,7 +7,7 @@ use native.Mathlib.Omega.{arith}
 use lib.Dec.{ltb, leb, eqb}
 use borrow.Author.Tests.{leb-true, eqb-false}
 use Rattle.rules.proofs.Bools.{split_3, either}
-use Rattle.common.specs.Common.{KB1, KB4, KB8, KB16, KB32}
+use Rattle.common.specs.Common.{KB1, KB4, KB8, KB16}
 use Rattle.common.specs.declared.Mode.{Mode}
 use Rattle.common.specs.declared.Mode.TheVariants.{Board as OnBoard}
 use Rattle.banks.specs.Banks.{shown, start_at, bank_start}
@@ -22,7 +22,7 @@ use Rattle.cartridge.specs.declared.MapperType.TheVariants.{Nrom, Mmc1, Uxrom, C
 use Rattle.cartridge.proofs.Range.{fields}
 use Rattle.places.specs.Places.{prg_at, chr_at, in_prg, in_chr}
 use Rattle.places.specs.Windows.{Window, lands_in, fixed_block, fixed_prg, board_chr, board_chr_ram, prg_ram_of, in_windows}
-use Rattle.places.specs.Windows.Window.{Prg32K, Prg16K, Prg8K, Chr8K, Chr4K, Chr1K, PrgRam, ChrRam, Empty, Refused}
+use Rattle.places.specs.Windows.Window.{Prg16K, Prg8K, Chr8K, Chr4K, Chr1K, PrgRam, ChrRam, Empty, Refused}
 use Rattle.places.specs.Steps.{if_chr_ram}
 use Rattle.places.specs.declared.Place.TheVariants as place
 use Rattle.places.specs.declared.Place.TheVariants.{Nowhere}
@@ -95,7 +95,6 @@ module _ (c : Cartridge) (r : Roomy c) (size n i : ℕ) (h : i < size) where
 -- so wherever an address lands, in whatever window of whatever board
 lies_in : (c : Cartridge) → Roomy c → (w : Window) (a : ℕ) → Lies c (lands_in c w a)
 unfolding lands_in
-lies_in c r (Prg32K n) a = prg_lies c r KB32 n (a % KB32) (omega arith)
 lies_in c r (Prg16K n) a = prg_lies c r KB16 n (a % KB16) (omega arith)
 lies_in c r (Prg8K n) a = prg_lies c r KB8 n (a % KB8) (omega arith)
 lies_in c r (Chr8K n) a = chr_lies c r KB8 n (a % KB8) (omega arith)
@@ -116,9 +115,8 @@ pub write_within : (b : Board) (a : ℕ) → in_range b ≡ true → Lies b.cart
 unfolding write_landing
 write_within b a e = lies_in b.cart (roomy b e) (write_window_on b.cart.mapper b.registers b.cart a) a
 
--- a window that is no refusal, of a bank that some board shows: none shows one of 32 KB
+-- a window that is no refusal
 abbrev Opens : Window → Type 0
-Opens (Prg32K n) = ⊥
 Opens (Prg16K n) = Unit {0}
 Opens (Prg8K n) = Unit {0}
 Opens (Chr8K n) = Unit {0}
@@ -151,7 +149,6 @@ module _ (c : Cartridge) (r : Roomy c) (e : c.mode ≡ OnBoard) where
 
   found_in : (w : Window) → Opens w → (a : ℕ) → Found (lands_in c w a)
   unfolding lands_in
-  found_in (Prg32K n) o a = absurd o
   found_in (Prg16K n) o a = prg_found KB16 n (a % KB16) (omega arith) (omega arith)
   found_in (Prg8K n) o a = prg_found KB8 n (a % KB8) (omega arith) (omega arith)
   found_in (Chr8K n) o a = chr_found KB8 n (a % KB8) (omega arith) (omega arith)

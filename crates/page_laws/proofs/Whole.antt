@@ -5,7 +5,7 @@ use mathlib.Core.Bool.{Bool, true, false}
 use native.Mathlib.Omega.{arith}
 use lib.Dec.{ltb}
 use borrow.Author.Tests.{ltb-true, ltb-false, lt-ltb, le-ltb}
-use Rattle.common.specs.Common.{KB1, KB4, KB8, KB16, KB32}
+use Rattle.common.specs.Common.{KB1, KB4, KB8, KB16}
 use Rattle.common.specs.declared.Mode.{Mode}
 use Rattle.common.specs.declared.Mode.TheVariants.{House, Board as OnBoard}
 use Rattle.banks.specs.Banks.{bank_start}
@@ -18,7 +18,7 @@ use Rattle.cartridge.specs.declared.MapperType.{MapperType}
 use Rattle.cartridge.specs.declared.MapperType.TheVariants.{Nrom, Mmc1, Uxrom, Cnrom, Mmc3}
 use Rattle.places.specs.Places.{prg_at, chr_at, in_prg, in_chr}
 use Rattle.places.specs.Windows.{Window, lands_in, fixed_block, fixed_prg, house_chr_ram, board_chr_ram, in_windows}
-use Rattle.places.specs.Windows.Window.{Prg32K, Prg16K, Prg8K, Chr8K, Chr4K, Chr1K, PrgRam, ChrRam, Empty, Refused}
+use Rattle.places.specs.Windows.Window.{Prg16K, Prg8K, Chr8K, Chr4K, Chr1K, PrgRam, ChrRam, Empty, Refused}
 use Rattle.places.specs.declared.Place.TheVariants as place
 use Rattle.places.specs.declared.Landing.TheVariants.{At}
 use Rattle.nrom.specs.Nrom as nrom
@@ -75,7 +75,6 @@ module _ (p o : ℕ) (h : o < KB1) where
     -- nor does a bank end inside one
     lands_on : (w : Window) → lands_in c w (p * KB1 + o) ≡ shifted (lands_in c w (p * KB1)) o
     unfolding lands_in shifted moved_on
-    lands_on (Prg32K n) = ap (in_prg c KB32 n) (omega arith) ∙ prg_on c KB32 n (p * KB1 % KB32) o
     lands_on (Prg16K n) = ap (in_prg c KB16 n) (omega arith) ∙ prg_on c KB16 n (p * KB1 % KB16) o
     lands_on (Prg8K n) = ap (in_prg c KB8 n) (omega arith) ∙ prg_on c KB8 n (p * KB1 % KB8) o
     lands_on (Chr8K n) = ap (in_chr c KB8 n) (omega arith) ∙ chr_on c KB8 n (p * KB1 % KB8) o

@@ -1,3 +1,4 @@
 pub mod Places
 pub mod Windows
 pub mod Steps
+pub mod Whole

@@ -1,6 +1,6 @@
 -- What a board shows at an address, the windows that boards share, and where an address lands in one.
 use Rattle.std.specs.Prelude.{ℕ, ◌%◌, cond, ltb, eqb}
-use Rattle.common.specs.Common.{KB1, KB4, KB8, KB16, KB32}
+use Rattle.common.specs.Common.{KB1, KB4, KB8, KB16}
 use Rattle.common.specs.declared.Refusal.{Refusal}
 use Rattle.common.specs.Answers.{no}
 use Rattle.cartridge.specs.Load.{has_chr_ram}
@@ -12,7 +12,6 @@ use Rattle.places.specs.declared.Place.TheVariants.{PrgRam as InPrgRam, ChrRam a
 
 -- a bank by its number, counted in banks of its size; a RAM; nothing; or a refusal
 pub data Window : Type 0 where
-  Prg32K : ℕ → Window
   Prg16K : ℕ → Window
   Prg8K : ℕ → Window
   Chr8K : ℕ → Window
@@ -25,7 +24,6 @@ pub data Window : Type 0 where
 
 -- where an address lands in a window: every window lies on a multiple of its size
 unfoldable pub lands_in : Cartridge → Window → ℕ → Landing
-lands_in c (Prg32K n) a = in_prg c KB32 n (a % KB32)
 lands_in c (Prg16K n) a = in_prg c KB16 n (a % KB16)
 lands_in c (Prg8K n) a = in_prg c KB8 n (a % KB8)
 lands_in c (Chr8K n) a = in_chr c KB8 n (a % KB8)
@@ -56,13 +54,9 @@ house_chr_ram c a = cond (ltb a 0x2000) (house_chr c) Empty
 unfoldable pub board_chr : Cartridge → Window → Window
 board_chr c bank = cond (has_chr_ram c) bank Empty
 
--- the writes in board mode of all boards but MMC1 and MMC3, of an 8 KB CHR bank; "Not mentioned: .. a write does nothing"
+-- the writes of NROM, UxROM and CNROM in board mode, of an 8 KB CHR bank; "Not mentioned: .. a write does nothing"
 unfoldable pub board_chr_ram : Cartridge → ℕ → ℕ → Window
 board_chr_ram c n a = cond (ltb a 0x2000) (board_chr c (Chr8K n)) Empty
-
--- M-106, AxROM and GxROM, of a CHR and a PRG bank: "CHR is as on the other boards; 2000-7FFF reads 0"; at 8000-FFFF "a 32 KB PRG bank"; "Banks are taken modulo their count"
-unfoldable pub whole_banks : ℕ → ℕ → ℕ → Window
-whole_banks chr prg a = cond (ltb a 0x2000) (Chr8K chr) (cond (ltb a 0x8000) Empty (Prg32K prg))
 
 -- MMC1 and MMC3: "6000-7FFF PRG RAM"; M-100: "Without PRG RAM .. 6000-7FFF reads 0 and ignores writes"
 unfoldable pub prg_ram_of : Cartridge → Window

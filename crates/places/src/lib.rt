@@ -2,9 +2,10 @@
 #![tactic(auto)]
 
 ghost use Rattle.std.specs.Prelude.{◌≡◌};
-ghost use Rattle.places.specs.Windows.{lands_in, fixed_block, fixed_prg, house_chr, house_chr_ram, board_chr, board_chr_ram, whole_banks, prg_ram_of};
+ghost use Rattle.places.specs.Windows.{lands_in, fixed_block, fixed_prg, house_chr, house_chr_ram, board_chr, board_chr_ram, prg_ram_of};
 ghost use Rattle.places.specs.Steps.{if_chr_ram};
-ghost use Rattle.places.specs.Windows.Window.{Prg32K, Prg16K, Prg8K, Chr8K, Chr4K, Chr1K, PrgRam};
+ghost use Rattle.places.specs.Whole.{in_prg_32k, whole_banks};
+ghost use Rattle.places.specs.Windows.Window.{Prg16K, Prg8K, Chr8K, Chr4K, Chr1K, PrgRam};
 ghost use Rattle.places.specs.Places.{prg_at, chr_at, byte_of, byte_at, answer_at, StoreOwes};
 
 use banks::{Bank1K, Bank4K, Bank8K, Bank16K, Bank32K, Start};
@@ -61,7 +62,7 @@ pub fn chr_at(ram: bool, start: Start, at: u16) -> Landing
 
 // A window for each kind of bank. Each lies on a multiple of its size.
 pub fn prg_32k(cart: Cartridge, bank: Bank32K, address: u16) -> Landing
-    ensures { result ≡ lands_in cart (Prg32K bank.0) address }
+    ensures { result ≡ in_prg_32k cart bank.0 address }
 {
     let mode = cart.mode;
     prg_at(bank.start(mode, cart.prg_total()), address % 32768)
@@ -192,7 +193,7 @@ fn board_chr_8k(cart: Cartridge, bank: Bank8K, address: u16) -> Landing
     if_chr_ram(cart, chr_8k(cart, bank, address))
 }
 
-// Board mode, all but MMC1 and MMC3: no other write stores a byte.
+// NROM, UxROM and CNROM in board mode: no other write stores a byte.
 pub fn board_chr_ram(cart: Cartridge, bank: Bank8K, address: u16) -> Landing
     ensures { result ≡ lands_in cart (board_chr_ram cart bank.0 address) address }
 {
@@ -204,7 +205,7 @@ pub fn board_chr_ram(cart: Cartridge, bank: Bank8K, address: u16) -> Landing
 
 // AxROM and GxROM: one bank of CHR, one of PRG.
 pub fn whole_banks(cart: Cartridge, chr: Bank8K, prg: Bank32K, address: u16) -> Landing
-    ensures { result ≡ lands_in cart (whole_banks chr.0 prg.0 address) address }
+    ensures { result ≡ whole_banks cart chr.0 prg.0 address }
 {
     match address {
         0x0000..=0x1fff => chr_8k(cart, chr, address),
