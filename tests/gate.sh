@@ -27,7 +27,7 @@ END
   cat >"$work/bin/rt" <<'END'
 #!/usr/bin/env bash
 case $* in
-ci) echo "rt: ok, must-fail edits: 3 refused, 0 bad"; echo "5 passed, 0 failed" ;;
+ci) echo "rt: ok; handles allowed: none; must-fail edits: 3 refused; all was done"; echo "5 passed, 0 failed" ;;
 *) exit 2 ;;
 esac
 END
@@ -68,17 +68,17 @@ make_repository
 echo 'echo looked' >"$there/unnamed.sh"
 gate 1 "failed: tests/unnamed.sh is not named in .ci/run" "$all passed, 1 failed"
 make_repository
-sed -i 's/^ci) .*/ci) echo "rt: ok"; echo "4 passed, 1 failed"; exit 1 ;;/' "$work/bin/rt"
+sed -i 's/^ci) .*/ci) echo "4 passed, 1 failed"; exit 1 ;;/' "$work/bin/rt"
 gate 1 "4 passed, 1 failed" "$(in_all)"
 make_repository
-sed -i 's/^ci) .*/ci) echo "rt: ok"; echo "5 passed, 0 failed"; exit 1 ;;/' "$work/bin/rt"
+sed -i 's/^ci) .*/ci) echo "5 passed, 0 failed"; exit 1 ;;/' "$work/bin/rt"
 gate 1 "5 passed, 0 failed" "$all passed, 1 failed"
 make_repository
 sed -i 's/^ci) .*/ci) echo "rt: ok"; echo "killed" ;;/' "$work/bin/rt"
 gate 1 "failed: rt ci ended without its closing line (status 0)" "$((all - 5)) passed, 1 failed"
 make_repository
-sed -i 's/^ci) .*/ci) echo "rt: ok, must-fail edits: 3 refused, 1 bad"; echo "5 passed, 0 failed" ;;/' "$work/bin/rt"
-gate 1 "failed: rt ci has a bad edit: rt: ok, must-fail edits: 3 refused, 1 bad" "$all passed, 1 failed"
+sed -i 's/^ci) .*/ci) echo "rt: ok; handles allowed: none; must-fail edits: 3 refused, 1 bad; all was done"; echo "5 passed, 0 failed" ;;/' "$work/bin/rt"
+gate 1 "failed: rt ci has a bad edit: rt: ok; handles allowed: none; must-fail edits: 3 refused, 1 bad; all was done" "$all passed, 1 failed"
 make_repository
 sed -i 's/^ci) .*/ci) echo "5 passed, 0 failed" ;;/' "$work/bin/rt"
 gate 1 "failed: rt ci has no line 'rt: ok'" "$all passed, 1 failed"

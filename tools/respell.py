@@ -1,7 +1,7 @@
 #!/usr/bin/env python3
 """Brings the repository's own definitions, lemmas and fields of specs/ and proofs/ to snake case, after port.py has run.
 
-usage: python3 tools/respell.py            at the top of the repository: turns crates/, their must-fail edits, and the pages' quoted names
+usage: python3 tools/respell.py            at the top of the repository: turns the .rt and .antt files of crates/
        python3 tools/respell.py --map      prints each name and what becomes of it
 
 A name is turned where it is declared in an .antt file of specs/ or proofs/ and begins with a small letter: `isNes2In` to `is_nes2_in`,

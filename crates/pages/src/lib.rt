@@ -155,7 +155,6 @@ pub fn pages_if(
 }
 
 // Where each page from `first` on is read from, and where a write to it goes.
-#[tactic(auto)]
 pub fn pages(board: Board, first: u8, reads: &mut [u32], writes: &mut [u32]) -> PagesAnswer
     ensures { PagesOwes board first reads.old writes.old result reads.new writes.new }
 {
