@@ -341,6 +341,7 @@ fn copy_digits(dst: &mut [u64], src: &[u64])
 }
 
 // What the state holds, digit by digit, so that no caller needs to know its bits.
+#[tactic(auto, using(crate::proofs::Keeps::four_parts), unfolding(memory::specs::Memory::copied))]
 pub fn biekkarul_digits(state: &[u8], digits: &mut [u64]) -> u16
     ensures { DigitsOwes state.now digits.old result digits.new }
 {
