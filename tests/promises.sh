@@ -78,7 +78,7 @@ while IFS=: read -r page path; do
   [ -d "crates/$crate/src" ] || continue # of the wrapper, or of Rust itself
   for name in $(tr ':' ' ' <<<"${path#*::}"); do
     seen=$((seen + 1))
-    grep -qwE "(fn|struct|enum|const|mod) $name" "crates/$crate/src/"*.rt || missing "$path"
+    grep -qwE "(fn|struct|enum|type|const|mod) $name" "crates/$crate/src/"*.rt || missing "$path"
   done
 done < <(grep -oHE '`[a-z0-9_]+(::[A-Za-z0-9_]+)+' README.md docs/*.md | tr -d '\140')
 

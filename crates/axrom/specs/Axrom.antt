@@ -1,14 +1,13 @@
 -- AxROM, document 02, M-106: what a read and a write find at an address, and what a write leaves. Board mode only.
-use Rattle.std.specs.Prelude.{ℕ, ◌/◌, ◌%◌, Bool, cond, ltb, eqb}
+use Rattle.std.specs.Prelude.{ℕ, ◌/◌, ◌%◌, Bool, cond, ltb, eqb, Some, None, Option}
 use Rattle.common.specs.declared.Mirroring.{Mirroring}
 use Rattle.common.specs.declared.Mirroring.TheVariants.{SingleScreenUpper, SingleScreenLower}
-use Rattle.common.specs.declared.Mirrors.TheVariants.{AsBefore, As}
 use Rattle.cartridge.specs.declared.Cartridge.{Cartridge}
 use Rattle.places.specs.Whole.{whole_banks}
 use Rattle.places.specs.Windows.{Window, board_chr_ram}
-use Rattle.places.specs.declared.Landing.{Landing}
+use Rattle.places.specs.Places.{Landing}
 use Rattle.axrom.specs.declared.Axrom.{Axrom}
-use Rattle.axrom.specs.declared.Wrote.{Wrote}
+use Rattle.common.specs.declared.Outcome.{Outcome}
 
 -- "it starts at bank 0"
 abbrev pub start : Axrom
@@ -34,7 +33,11 @@ write_window c a = board_chr_ram c 0 a
 unfoldable pub screen : ℕ → Mirroring
 screen v = cond (eqb (v / 16 % 2) 1) SingleScreenUpper SingleScreenLower
 
+-- the board after a write, and what the write asks of the screens
+abbrev pub Wrote : Type 0
+Wrote = Outcome Axrom (Option Mirroring)
+
 -- "a write to 8000-FFFF takes a 32 KB PRG bank from bits 0-2 and the lower or upper screen from bit 4"
 unfoldable pub written : Axrom → ℕ → ℕ → Wrote
 written u v a =
-    cond (ltb a 0x8000) (record { axrom = u; mirrors = AsBefore }) (record { axrom = record { bank = v % 8 }; mirrors = As (screen v) })
+    cond (ltb a 0x8000) (record { left = u; answer = None }) (record { left = record { bank = v % 8 }; answer = Some (screen v) })

@@ -7,21 +7,18 @@ ghost use Rattle.axrom.specs.Axrom.{start, is_start, fits, read_place, write_win
 
 use banks::{Bank8K, Bank32K};
 use cartridge::Cartridge;
-use common::{Mirroring, Mirrors};
+use common::{Mirroring, Outcome};
 use places::Landing;
 
-#[derive(Clone, Copy)]
+#[derive(Clone, Copy, Debug, PartialEq, Eq)]
 pub struct Axrom {
     pub bank: u8,
 }
 
 // What a write leaves, and what it asks of the screens.
-#[derive(Clone, Copy)]
-pub struct Wrote {
-    pub axrom: Axrom,
-    pub mirrors: Mirrors,
-}
+pub type Wrote = Outcome<Axrom, Option<Mirroring>>;
 
+#[tactic(auto, unfolding(crate::specs::Axrom::screen, places::specs::Windows::lands_in))]
 fn screen(value: u8) -> Mirroring
     ensures { result ≡ screen value }
 {
@@ -42,7 +39,7 @@ impl Axrom {
     pub fn is_start(self) -> bool
         ensures { result ≡ is_start self }
     {
-        self.bank == 0
+        self == Axrom::new()
     }
 
     pub fn fits(self) -> bool
@@ -54,21 +51,27 @@ impl Axrom {
     pub fn read_landing(self, cart: Cartridge, address: u16) -> Landing
         ensures { result ≡ read_place self cart address }
     {
-        places::whole_banks(cart, Bank8K(0), Bank32K(self.bank as u32), address)
+        places::whole_banks(
+            cart,
+            Bank8K::new(0),
+            Bank32K::new(self.bank as u32),
+            address,
+        )
     }
 
     // The screen is the board's current mirroring; no register keeps it.
+    #[tactic(auto, unfolding(crate::specs::Axrom::written, places::specs::Windows::lands_in))]
     pub fn write8(self, value: u8, address: u16) -> Wrote
         ensures { result ≡ written self value address }
     {
         match address {
-            0x8000..=0xffff => Wrote {
-                axrom: Axrom { bank: value % 8 },
-                mirrors: Mirrors::As(screen(value)),
+            0x8000..=0xffff => Outcome {
+                left: Axrom { bank: value % 8 },
+                answer: Some(screen(value)),
             },
-            _ => Wrote {
-                axrom: self,
-                mirrors: Mirrors::AsBefore,
+            _ => Outcome {
+                left: self,
+                answer: None,
             },
         }
     }
@@ -77,5 +80,5 @@ impl Axrom {
 pub fn write_landing(cart: Cartridge, address: u16) -> Landing
     ensures { result ≡ lands_in cart (write_window cart address) address }
 {
-    places::board_chr_ram(cart, Bank8K(0), address)
+    places::board_chr_ram(cart, Bank8K::new(0), address)
 }

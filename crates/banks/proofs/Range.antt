@@ -1,12 +1,12 @@
 -- The modulo rule, once for all bank sizes: a number taken modulo the count of banks is below the count, so that bank lies within the data.
 -- Assumes nothing.
+use Rattle.std.specs.Prelude.{Some}
 use Prim.Native.Nat.{ℕ, ◌+◌, ◌*◌, ◌/◌, ◌%◌, ◌≤◌, ◌<◌}
 use mathlib.Core.Path.{◌≡◌, refl}
 use native.Mathlib.Nat.{mod-lt, div-mul-le_self, le-div_iff_mul-le, mul-le-mul_right, le_trans, suc-mul, one-mul}
 use Rattle.common.specs.declared.Mode.TheVariants.{Board}
 use Rattle.banks.specs.Banks.{shown, start_at, bank_start}
 use borrow.Author.Tests.{le-leb}
-use Rattle.banks.specs.declared.Start.TheVariants.{At}
 
 -- a bank below the count of banks ends within the data
 pub ends_within : (n size total : ℕ) → n < total / size → n * size + size ≤ total
@@ -20,7 +20,7 @@ some_bank size total p h = (le-div_iff_mul-le {k = size} {x = 1} {y = total} p).
 pub record Shown (n size total : ℕ) : Type 0 where
   pub number : ℕ
   pub modulo : number ≡ n % (total / size)
-  pub start : bank_start Board n size total ≡ At (number * size)
+  pub start : bank_start Board n size total ≡ Some (number * size)
   pub below : number < total / size
   pub within : number * size + size ≤ total
 

@@ -1,127 +1,58 @@
-// Bank numbers, a type for each unit, and the bytes of a bank as a part of the caller's own data.
+// Bank numbers, a type for each size of bank, and the bytes of a bank as a part of the caller's own data.
 #![tactic(auto)]
 
 ghost use Rattle.std.specs.Prelude.{◌≡◌, ◌*◌, ◌%◌};
-ghost use Rattle.common.specs.Common.{KB1, KB4, KB8, KB16, KB32};
 ghost use Rattle.banks.specs.Banks.{shown, start_at, bank_start, bank_of};
 
 use common::{Mode, kilobytes};
 
-// Where a bank starts in its data.
-#[derive(Clone, Copy)]
-pub enum Start {
-    At(u32),
-    PastEnd,
-}
+// A bank number, counted in banks of SIZE bytes.
+#[derive(Clone, Copy, Debug, PartialEq, Eq)]
+pub struct Bank<const SIZE: u32>(pub u32);
 
-// A bank number in 1 KB units.
-#[derive(Clone, Copy)]
-pub struct Bank1K(pub u32);
+pub type Bank1K = Bank<{ kilobytes::KB1 }>;
 
-impl Bank1K {
+pub type Bank4K = Bank<{ kilobytes::KB4 }>;
+
+pub type Bank8K = Bank<{ kilobytes::KB8 }>;
+
+pub type Bank16K = Bank<{ kilobytes::KB16 }>;
+
+pub type Bank32K = Bank<{ kilobytes::KB32 }>;
+
+impl<const SIZE: u32> Bank<SIZE> {
+    pub fn new(number: u32) -> Bank<SIZE>
+        ensures { result.0 ≡ number }
+    {
+        Bank(number)
+    }
+
     pub fn offset(self) -> u64
-        ensures { result ≡ self.0 * KB1 }
+        ensures { result ≡ self.entry.0 * SIZE }
     {
-        (self.0 as u64) * (kilobytes::KB1 as u64)
+        (self.0 as u64) * (SIZE as u64)
     }
 
-    // By the bank rule of the mode, in data of `total` bytes.
-    pub fn start(self, mode: Mode, total: u32) -> Start
-        ensures { result ≡ bank_start mode self.0 KB1 total }
+    // Where it starts by the bank rule of the mode, in data of `total` bytes; nowhere if it ends past them.
+    #[tactic(auto, unfolding(crate::specs::Banks::bank_start))]
+    pub fn start(self, mode: Mode, total: u32) -> Option<u32>
+        ensures { result ≡ bank_start mode self.entry.0 SIZE total }
     {
-        let bank = Bank1K(shown_number(mode, self.0, total / kilobytes::KB1));
-        start_at(bank.offset(), kilobytes::KB1, total)
-    }
-}
-
-// A bank number in 4 KB units.
-#[derive(Clone, Copy)]
-pub struct Bank4K(pub u32);
-
-impl Bank4K {
-    pub fn offset(self) -> u64
-        ensures { result ≡ self.0 * KB4 }
-    {
-        (self.0 as u64) * (kilobytes::KB4 as u64)
-    }
-
-    // By the bank rule of the mode, in data of `total` bytes.
-    pub fn start(self, mode: Mode, total: u32) -> Start
-        ensures { result ≡ bank_start mode self.0 KB4 total }
-    {
-        let bank = Bank4K(shown_number(mode, self.0, total / kilobytes::KB4));
-        start_at(bank.offset(), kilobytes::KB4, total)
-    }
-}
-
-// A bank number in 8 KB units.
-#[derive(Clone, Copy)]
-pub struct Bank8K(pub u32);
-
-impl Bank8K {
-    pub fn offset(self) -> u64
-        ensures { result ≡ self.0 * KB8 }
-    {
-        (self.0 as u64) * (kilobytes::KB8 as u64)
-    }
-
-    // By the bank rule of the mode, in data of `total` bytes.
-    pub fn start(self, mode: Mode, total: u32) -> Start
-        ensures { result ≡ bank_start mode self.0 KB8 total }
-    {
-        let bank = Bank8K(shown_number(mode, self.0, total / kilobytes::KB8));
-        start_at(bank.offset(), kilobytes::KB8, total)
-    }
-}
-
-// A bank number in 16 KB units.
-#[derive(Clone, Copy)]
-pub struct Bank16K(pub u32);
-
-impl Bank16K {
-    pub fn offset(self) -> u64
-        ensures { result ≡ self.0 * KB16 }
-    {
-        (self.0 as u64) * (kilobytes::KB16 as u64)
-    }
-
-    // By the bank rule of the mode, in data of `total` bytes.
-    pub fn start(self, mode: Mode, total: u32) -> Start
-        ensures { result ≡ bank_start mode self.0 KB16 total }
-    {
-        let bank = Bank16K(shown_number(mode, self.0, total / kilobytes::KB16));
-        start_at(bank.offset(), kilobytes::KB16, total)
-    }
-}
-
-// A bank number in 32 KB units.
-#[derive(Clone, Copy)]
-pub struct Bank32K(pub u32);
-
-impl Bank32K {
-    pub fn offset(self) -> u64
-        ensures { result ≡ self.0 * KB32 }
-    {
-        (self.0 as u64) * (kilobytes::KB32 as u64)
-    }
-
-    // By the bank rule of the mode, in data of `total` bytes.
-    pub fn start(self, mode: Mode, total: u32) -> Start
-        ensures { result ≡ bank_start mode self.0 KB32 total }
-    {
-        let bank = Bank32K(shown_number(mode, self.0, total / kilobytes::KB32));
-        start_at(bank.offset(), kilobytes::KB32, total)
+        let count = total.checked_div(SIZE).unwrap_or(0);
+        let bank = Bank::<SIZE>::new(shown_number(mode, self.0, count));
+        start_at(bank.offset(), SIZE, total)
     }
 }
 
 // The number modulo the count; the number itself where there are no banks, as ℕ's remainder has it.
-fn wrapped(n: u32, count: u32) -> u32
+pub fn wrapped(n: u32, count: u32) -> u32
     ensures { result ≡ n % count }
 {
-    if count == 0 { n } else { n % count }
+    n.checked_rem(count).unwrap_or(n)
 }
 
 // House mode takes a bank number as it stands, board mode modulo the count of such banks.
+#[tactic(auto, unfolding(crate::specs::Banks::shown))]
 fn shown_number(mode: Mode, n: u32, count: u32) -> u32
     ensures { result ≡ shown mode n count }
 {
@@ -131,27 +62,25 @@ fn shown_number(mode: Mode, n: u32, count: u32) -> u32
     }
 }
 
-fn start_at(at: u64, size: u32, total: u32) -> Start
+#[tactic(auto, unfolding(crate::specs::Banks::start_at))]
+fn start_at(at: u64, size: u32, total: u32) -> Option<u32>
     ensures { result ≡ start_at at size total }
 {
-    let total = total as u64;
-    if at <= total {
-        if at + (size as u64) <= total {
-            Start::At(at as u32)
-        } else {
-            Start::PastEnd
-        }
+    let end = at.checked_add(size as u64)?;
+    if end <= (total as u64) {
+        Some(at as u32)
     } else {
-        Start::PastEnd
+        None
     }
 }
 
 // The bytes of a bank: the caller's own, given back as a part of the data.
-pub fn bank_of(s: &[u8], start: Start, size: u32) -> &[u8]
+#[tactic(auto, unfolding(crate::specs::Banks::bank_of))]
+pub fn bank_of(s: &[u8], start: Option<u32>, size: u32) -> &[u8]
     ensures { result.now ≡ bank_of s.now start size }
 {
     match start {
-        Start::At(a) => memory::part_of(s, a as usize, size as usize),
-        Start::PastEnd => &s[..0],
+        Some(a) => memory::part_of(s, a as usize, size as usize),
+        None => &[],
     }
 }

@@ -1,5 +1,5 @@
 -- "State ranges", and the refusals that come before the board's own: 9 and 10.
-use Rattle.std.specs.Prelude.{ℕ, Bool, true, not, ◌&&◌, List, [], ◌∷◌, eqb}
+use Rattle.std.specs.Prelude.{ℕ, Bool, true, not, ◌&&◌, List, [], ◌∷◌, eqb, Ok, Err}
 use Rattle.common.specs.Answers.{same, is_headers}
 use Rattle.common.specs.declared.Mode.{Mode}
 use Rattle.common.specs.declared.Mode.TheVariants.{House, Board as OnBoard}
@@ -8,10 +8,8 @@ use Rattle.cartridge.specs.Refusals.{Row, given, first}
 use Rattle.cartridge.specs.Load.{could_load}
 use Rattle.cartridge.specs.declared.MapperType.{MapperType}
 use Rattle.cartridge.specs.declared.MapperType.TheVariants.{Nrom, Mmc1, Uxrom, Cnrom, Mmc3}
-use Rattle.cartridge.specs.declared.Verdict.{Verdict}
-use Rattle.cartridge.specs.declared.Verdict.TheVariants.{Take, Refuse}
-use Rattle.places.specs.declared.Landing.{Landing}
-use Rattle.places.specs.declared.Landing.TheVariants.{Refused}
+use Rattle.cartridge.specs.Refusals.{Verdict}
+use Rattle.places.specs.Places.{Landing}
 use Rattle.boards.specs.Registers.{fits}
 use Rattle.boards.specs.declared.Board.{Board}
 
@@ -45,8 +43,8 @@ call_refusals rams state =
 
 -- where an address lands, unless a refusal is given
 abbrev pub unless_refused : Verdict → Landing → Landing
-unless_refused Take l = l
-unless_refused (Refuse why) l = Refused why
+unless_refused (Ok tt) l = l
+unless_refused (Err why) l = Err why
 
 -- where an address lands: unless 9 or 10 is given, where the board itself says, which may be a refusal of its own
 unfoldable pub guarded : Bool → Bool → Landing → Landing

@@ -6,8 +6,8 @@ use Rattle.cartridge.specs.declared.MapperType.{MapperType}
 use Rattle.cartridge.specs.declared.MapperType.TheVariants.{Nrom, Mmc1, Uxrom, Cnrom, Mmc3}
 use Rattle.places.specs.Places.{byte_at, answer_at}
 use Rattle.places.specs.Windows.{Window, lands_in}
-use Rattle.places.specs.declared.Landing.{Landing}
-use Rattle.places.specs.declared.ReadAnswer.{ReadAnswer}
+use Rattle.places.specs.Places.{Landing}
+use Rattle.places.specs.Places.{ReadAnswer}
 use Rattle.nrom.specs.Nrom as nrom
 use Rattle.uxrom.specs.Uxrom as uxrom
 use Rattle.cnrom.specs.Cnrom as cnrom

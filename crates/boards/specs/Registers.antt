@@ -1,8 +1,7 @@
 -- The registers of all boards, a part for each: their start, their ranges, and what a write and a clock leave of them.
-use Rattle.std.specs.Prelude.{ℕ, Bool, true, false, cond, ◌&&◌}
+use Rattle.std.specs.Prelude.{ℕ, Bool, true, false, cond, ◌&&◌, Option, None}
+use Rattle.common.specs.declared.Outcome.{Outcome}
 use Rattle.common.specs.declared.Mode.{Mode}
-use Rattle.common.specs.declared.Mirrors.{Mirrors}
-use Rattle.common.specs.declared.Mirrors.TheVariants.{AsBefore}
 use Rattle.cartridge.specs.Mappers.{is_mapper}
 use Rattle.cartridge.specs.declared.MapperType.{MapperType}
 use Rattle.cartridge.specs.declared.MapperType.TheVariants.{Nrom, Mmc1, Uxrom, Cnrom, Mmc3}
@@ -18,8 +17,15 @@ use Rattle.mmc3.specs.Write as mmc3-write
 use Rattle.mmc3.specs.Clock as mmc3-clock
 use Rattle.mmc3.specs.declared.Mmc3 as mmc3-type
 use Rattle.boards.specs.declared.Registers.{Registers}
-use Rattle.boards.specs.declared.Moved.{Moved}
-use Rattle.boards.specs.declared.Ticked.{Ticked}
+use Rattle.common.specs.declared.Mirroring.{Mirroring}
+
+-- what a write leaves of the registers, and what it asks of the screens
+abbrev pub Moved : Type 0
+Moved = Outcome Registers (Option Mirroring)
+
+-- what a clock leaves of them, and whether its answer is yes
+abbrev pub Ticked : Type 0
+Ticked = Outcome Registers Bool
 
 -- registers with another UxROM bank
 abbrev pub with_uxrom : Registers → uxrom-type.Uxrom → Registers
@@ -58,21 +64,21 @@ fits k mode r =
     && part_fits k Mmc3 (mmc3.fits mode r.mmc3) (mmc3.is_start r.mmc3)
 
 -- the registers, and what is asked of the screens
-abbrev pub asking : Registers → Mirrors → Moved
-asking r mirrors = record { registers = r; mirrors = mirrors }
+abbrev pub asking : Registers → Option Mirroring → Moved
+asking r mirrors = record { left = r; answer = mirrors }
 
 -- what an accepted write leaves of the registers and asks of the screens, on each board
 unfoldable pub moved : MapperType → Mode → Registers → ℕ → ℕ → Moved
-moved Nrom mode r v a = asking r AsBefore
-moved Mmc1 mode r v a = let w = mmc1-write.written mode r.mmc1 v a in asking (with_mmc1 r w.mmc1) w.mirrors
-moved Uxrom mode r v a = asking (with_uxrom r (uxrom.written r.uxrom v a)) AsBefore
-moved Cnrom mode r v a = asking (with_cnrom r (cnrom.written r.cnrom v a)) AsBefore
-moved Mmc3 mode r v a = let w = mmc3-write.written mode r.mmc3 v a in asking (with_mmc3 r w.mmc3) w.mirrors
+moved Nrom mode r v a = asking r None
+moved Mmc1 mode r v a = let w = mmc1-write.written mode r.mmc1 v a in asking (with_mmc1 r w.left) w.answer
+moved Uxrom mode r v a = asking (with_uxrom r (uxrom.written r.uxrom v a)) None
+moved Cnrom mode r v a = asking (with_cnrom r (cnrom.written r.cnrom v a)) None
+moved Mmc3 mode r v a = let w = mmc3-write.written mode r.mmc3 v a in asking (with_mmc3 r w.left) w.answer
 
 -- the registers after a clock of MMC3, whose unit and line move
 abbrev pub mmc3_ticked : Mode → Registers → Ticked
-mmc3_ticked mode r = let t = mmc3-clock.clocked mode r.mmc3 in record { registers = with_mmc3 r t.mmc3; yes = t.answer }
+mmc3_ticked mode r = let t = mmc3-clock.clocked mode r.mmc3 in record { left = with_mmc3 r t.left; answer = t.answer }
 
 -- what a clock leaves of them and answers; "Other boards: no"
 unfoldable pub ticked : MapperType → Mode → Registers → Ticked
-ticked k mode r = cond (is_mapper k Mmc3) (mmc3_ticked mode r) (record { registers = r; yes = false })
+ticked k mode r = cond (is_mapper k Mmc3) (mmc3_ticked mode r) (record { left = r; answer = false })

@@ -9,7 +9,7 @@ use Rattle.boards.specs.declared.Event.{Event}
 use Rattle.boards.specs.declared.Event.TheVariants.{Read, Write, Clock}
 use Rattle.boards.specs.declared.Answer.{Answer}
 use Rattle.boards.specs.declared.Answer.TheVariants.{Read as toRead, Write as toWrite, Clock as toClock}
-use Rattle.boards.specs.declared.Played.{Played}
+use Rattle.common.specs.declared.Outcome.{Outcome}
 
 -- the buffers lent to a call
 pub record Lent : Type 0 where
@@ -24,8 +24,8 @@ lent image prg chr = record { image = image; prg = prg; chr = chr }
 -- the board after an event: a read of an address, a write of a byte to an address, a clock; a read changes nothing
 unfoldable pub next : Board → Lent → Event → Board
 next b l (Read a) = b
-next b l (Write a v) = (written_as b (landing b l.image l.prg l.chr a) v a).board
-next b l Clock = (clock b).board
+next b l (Write a v) = (written_as b (landing b l.image l.prg l.chr a) v a).left
+next b l Clock = (clock b).left
 
 -- what the event answers
 unfoldable pub answer : Board → Lent → Event → Answer
@@ -83,6 +83,6 @@ ended m [] = m
 ended m (e ∷ es) = ended (stepped m e) es
 
 -- what the call of an event owes: its answer, and the moment after it
-pub record PlayOwes (m : Moment) (e : Event) (r : Played) (prg' chr' : List ℕ) : Type 0 where
+pub record PlayOwes (m : Moment) (e : Event) (r : Outcome Board Answer) (prg' chr' : List ℕ) : Type 0 where
   pub says : r.answer ≡ said m e
-  pub moves : moment r.board (lent m.lent.image prg' chr') ≡ stepped m e
+  pub moves : moment r.left (lent m.lent.image prg' chr') ≡ stepped m e

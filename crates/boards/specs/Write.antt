@@ -1,32 +1,35 @@
 -- The public write.
-use Rattle.std.specs.Prelude.{ℕ, ◌≡◌, Bool, cond, List, length}
+use Rattle.std.specs.Prelude.{ℕ, ◌≡◌, Bool, cond, List, length, Option, Some, None, Result, Ok, Err}
 use Rattle.common.specs.Answers.{same}
+use Rattle.common.specs.declared.Outcome.{Outcome}
+use Rattle.common.specs.declared.Refusal.{Refusal}
 use Rattle.common.specs.declared.Mode.{Mode}
 use Rattle.common.specs.declared.Mode.TheVariants.{House, Board as OnBoard}
 use Rattle.common.specs.declared.Mirroring.{Mirroring}
-use Rattle.common.specs.declared.Mirrors.{Mirrors}
-use Rattle.common.specs.declared.Mirrors.TheVariants.{AsBefore, As}
 use Rattle.cartridge.specs.Load.{rams_fit}
 use Rattle.cartridge.specs.declared.Cartridge.{Cartridge}
 use Rattle.cartridge.specs.declared.MapperType.{MapperType}
 use Rattle.cartridge.specs.declared.MapperType.TheVariants.{Nrom, Mmc1, Uxrom, Cnrom, Mmc3}
 use Rattle.places.specs.Places.{stored_prg, stored_chr}
 use Rattle.places.specs.Windows.{Window, lands_in}
-use Rattle.places.specs.declared.Landing.{Landing}
-use Rattle.places.specs.declared.Landing.TheVariants.{At, Refused}
+use Rattle.places.specs.Places.{Landing}
 use Rattle.nrom.specs.Nrom as nrom
 use Rattle.uxrom.specs.Uxrom as uxrom
 use Rattle.cnrom.specs.Cnrom as cnrom
 use Rattle.mmc1.specs.Read as mmc1
 use Rattle.mmc3.specs.Read as mmc3
-use Rattle.boards.specs.Registers.{moved}
+use Rattle.boards.specs.Registers.{Moved, moved}
 use Rattle.boards.specs.Range.{is_loaded, guarded}
 use Rattle.boards.specs.declared.Board.{Board}
 use Rattle.boards.specs.declared.Registers.{Registers}
-use Rattle.boards.specs.declared.Moved.{Moved}
-use Rattle.boards.specs.declared.Written.{Written}
-use Rattle.boards.specs.declared.WriteAnswer.{WriteAnswer}
-use Rattle.boards.specs.declared.WriteAnswer.TheVariants.{Quiet, Notice, Refused as NotWritten}
+
+-- what a write answers: nothing, a notice of the screens, or its refusal
+abbrev pub WriteAnswer : Type 0
+WriteAnswer = Result (Option Mirroring) Refusal
+
+-- the next board, and the answer
+abbrev pub Written : Type 0
+Written = Outcome Board WriteAnswer
 
 -- what a write finds at an address, on each board
 unfoldable pub write_window_on : MapperType → Registers → Cartridge → ℕ → Window
@@ -50,19 +53,19 @@ abbrev pub against : Board → Mirroring
 against b = against_in b.cart.mode b.cart.mirroring b.mirroring
 
 -- only board mode has a current mirroring that moves
-unfoldable pub next_mirroring : Mode → Mirroring → Mirrors → Mirroring
+unfoldable pub next_mirroring : Mode → Mirroring → Option Mirroring → Mirroring
 next_mirroring House now mirrors = now
-next_mirroring OnBoard now AsBefore = now
-next_mirroring OnBoard now (As m) = m
+next_mirroring OnBoard now None = now
+next_mirroring OnBoard now (Some m) = m
 
 -- a notice "exactly when" they differ
 unfoldable pub notice_unless : Bool → Mirroring → WriteAnswer
-notice_unless same m = cond same Quiet (Notice m)
+notice_unless same m = cond same (Ok None) (Ok (Some m))
 
 -- "A control load or A000 write answers a notice exactly when its mirroring differs"
-unfoldable pub notice : Mirroring → Mirrors → WriteAnswer
-notice old AsBefore = Quiet
-notice old (As m) = notice_unless (same old m) m
+unfoldable pub notice : Mirroring → Option Mirroring → WriteAnswer
+notice old None = Ok None
+notice old (Some m) = notice_unless (same old m) m
 
 -- the board with other registers
 abbrev pub with_registers : Board → Registers → Board
@@ -72,8 +75,8 @@ with_registers b r = record { cart = b.cart; mirroring = b.mirroring; registers 
 unfoldable pub turned : Board → Moved → Written
 turned b m =
     record {
-      board = record { cart = b.cart; mirroring = next_mirroring b.cart.mode b.mirroring m.mirrors; registers = m.registers };
-      answer = notice (against b) m.mirrors;
+      left = record { cart = b.cart; mirroring = next_mirroring b.cart.mode b.mirroring m.answer; registers = m.left };
+      answer = notice (against b) m.answer;
     }
 
 -- what an accepted write leaves and answers
@@ -82,8 +85,8 @@ accepted_write b v a = turned b (moved b.cart.mapper b.cart.mode b.registers v a
 
 -- "A refusal yields its number only; the state and every lent buffer hold what they held"
 unfoldable pub written_as : Board → Landing → ℕ → ℕ → Written
-written_as b (At p) v a = accepted_write b v a
-written_as b (Refused why) v a = record { board = b; answer = NotWritten why }
+written_as b (Ok p) v a = accepted_write b v a
+written_as b (Err why) v a = record { left = b; answer = Err why }
 
 -- where the byte of a write lands, or the refusal: 9, 10 unless the state may be served, then the board's own
 abbrev pub landing_if : Bool → Board → List ℕ → List ℕ → ℕ → Landing

@@ -4,25 +4,25 @@
 
 ghost use Rattle.std.specs.Prelude.{◌≡◌};
 ghost use Rattle.places.specs.Places.{byte_at};
-ghost use Rattle.boards.specs.Registers.{mmc1_start, start, part_fits, fits, asking, moved, ticked};
-ghost use Rattle.boards.specs.Start.{start_of, no_board, loaded_board, LoadOwes};
+ghost use Rattle.boards.specs.Registers.{mmc1_start, start, part_fits, fits, moved, ticked};
+ghost use Rattle.boards.specs.Start.{start_of, no_board, LoadOwes};
 ghost use Rattle.boards.specs.Range.{in_range, is_loaded, guarded};
 ghost use Rattle.boards.specs.Steps.{turned_fit, screens_by, screens_tested};
 ghost use Rattle.boards.specs.Read.{read_landing, read_if, read};
-ghost use Rattle.boards.specs.Write.{write_landing, against, next_mirroring, notice_unless, notice, turned, accepted_write, written_as, WritesIf, WriteOwes};
-ghost use Rattle.boards.specs.Clock.{yes_no, accepted_clock, clock_if, clock};
+ghost use Rattle.boards.specs.Write.{write_landing, against, next_mirroring, notice, turned, accepted_write, written_as, WritesIf, WriteOwes};
+ghost use Rattle.boards.specs.Clock.{accepted_clock, clock_if, clock};
 ghost use Rattle.boards.specs.Runs.{lent, moment, PlayOwes};
 
 use cartridge::{Cartridge, MapperType};
 use cnrom::Cnrom;
-use common::{Mirroring, Mirrors, Mode, Refusal};
+use common::{Mirroring, Mode, Outcome, Refusal};
 use mmc1::Mmc1;
 use mmc3::Mmc3;
-use places::{Landing, ReadAnswer};
+use places::{Landing, Lent, ReadAnswer};
 use uxrom::Uxrom;
 
 // One record serves all boards, with a part for each: a part that the board doesn't use holds its start value.
-#[derive(Clone, Copy)]
+#[derive(Clone, Copy, Debug, PartialEq, Eq)]
 pub struct Registers {
     pub uxrom: Uxrom,
     pub cnrom: Cnrom,
@@ -31,20 +31,12 @@ pub struct Registers {
 }
 
 // What a write leaves of the registers, and what it asks of the screens.
-#[derive(Clone, Copy)]
-pub struct Moved {
-    pub registers: Registers,
-    pub mirrors: Mirrors,
-}
+pub type Moved = Outcome<Registers, Option<Mirroring>>;
 
 // What a clock leaves of them, and whether its answer is yes.
-#[derive(Clone, Copy)]
-pub struct Ticked {
-    pub registers: Registers,
-    pub yes: bool,
-}
+pub type Ticked = Outcome<Registers, bool>;
 
-#[derive(Clone, Copy)]
+#[derive(Clone, Copy, Debug, PartialEq, Eq)]
 pub struct Board {
     pub cart: Cartridge,
     // The current one. In house mode it stays the header's.
@@ -52,82 +44,52 @@ pub struct Board {
     pub registers: Registers,
 }
 
-#[derive(Clone, Copy)]
-pub enum LoadAnswer {
-    Accepted,
-    Refused(Refusal),
-}
+// A write is quiet, or gives notice of the screens.
+pub type WriteAnswer = Result<Option<Mirroring>, Refusal>;
 
-#[derive(Clone, Copy)]
-pub struct Loaded {
-    pub board: Board,
-    pub answer: LoadAnswer,
-}
+pub type ClockAnswer = Result<bool, Refusal>;
 
-#[derive(Clone, Copy)]
-pub enum WriteAnswer {
-    Quiet,
-    Notice(Mirroring),
-    Refused(Refusal),
-}
+// The next board with the answer.
+pub type Written = Outcome<Board, WriteAnswer>;
 
-#[derive(Clone, Copy)]
-pub struct Written {
-    pub board: Board,
-    pub answer: WriteAnswer,
-}
+pub type Clocked = Outcome<Board, ClockAnswer>;
 
-#[derive(Clone, Copy)]
-pub enum ClockAnswer {
-    No,
-    Yes,
-    Refused(Refusal),
-}
+pub type Played = Outcome<Board, Answer>;
 
-#[derive(Clone, Copy)]
-pub struct Clocked {
-    pub board: Board,
-    pub answer: ClockAnswer,
-}
-
-// The three calls of a loaded board as one type, their answers, and what a call gives with its answer: the next board.
-#[derive(Clone, Copy)]
+// The three calls of a loaded board as one type, and their answers.
+#[derive(Clone, Copy, Debug, PartialEq, Eq)]
 pub enum Event {
     Read(u16),
     Write(u16, u8),
     Clock,
 }
 
-#[derive(Clone, Copy)]
+#[derive(Clone, Copy, Debug, PartialEq, Eq)]
 pub enum Answer {
     Read(ReadAnswer),
     Write(WriteAnswer),
     Clock(ClockAnswer),
 }
 
-#[derive(Clone, Copy)]
-pub struct Played {
-    pub board: Board,
-    pub answer: Answer,
-}
-
+#[tactic(auto, unfolding(crate::specs::Registers::mmc1_start, cartridge::specs::Mappers::is_mapper))]
 fn mmc1_start(mapper: MapperType) -> Mmc1
     ensures { result ≡ mmc1_start mapper }
 {
-    if mapper.is(MapperType::Mmc1) {
-        Mmc1::new()
-    } else {
-        Mmc1::unused()
+    match mapper {
+        MapperType::Mmc1 => Mmc1::new(),
+        _ => Mmc1::unused(),
     }
 }
 
+#[tactic(auto, using(cartridge::proofs::Mappers::by_equality), unfolding(crate::specs::Registers::part_fits))]
 fn part_fits(mapper: MapperType, owner: MapperType, in_range: bool, at_start: bool) -> bool
     ensures { result ≡ part_fits mapper owner in_range at_start }
 {
-    if mapper.is(owner) { in_range } else { at_start }
+    if mapper == owner { in_range } else { at_start }
 }
 
 impl Registers {
+    #[tactic(auto, unfolding(crate::specs::Registers::start))]
     pub fn new(mapper: MapperType) -> Self
         ensures { result ≡ start mapper }
     {
@@ -144,96 +106,84 @@ impl Registers {
     pub fn fits(self, mapper: MapperType, mode: Mode) -> bool
         ensures { result ≡ fits mapper mode self }
     {
-        let uxrom = self.uxrom;
-        let cnrom = self.cnrom;
-        let mmc1 = self.mmc1;
-        let mmc3 = self.mmc3;
-        part_fits(mapper, MapperType::Uxrom, true, uxrom.is_start())
-            & part_fits(mapper, MapperType::Cnrom, cnrom.fits(), cnrom.is_start())
-            & part_fits(mapper, MapperType::Mmc1, mmc1.fits(), mmc1.is_unused())
-            & part_fits(mapper, MapperType::Mmc3, mmc3.fits(mode), mmc3.is_start())
-    }
-
-    fn asking(self, mirrors: Mirrors) -> Moved
-        ensures { result ≡ asking self mirrors }
-    {
-        Moved {
-            registers: self,
-            mirrors,
-        }
+        part_fits(mapper, MapperType::Uxrom, true, self.uxrom.is_start())
+            & part_fits(
+                mapper,
+                MapperType::Cnrom,
+                self.cnrom.fits(),
+                self.cnrom.is_start(),
+            )
+            & part_fits(
+                mapper,
+                MapperType::Mmc1,
+                self.mmc1.fits(),
+                self.mmc1.is_unused(),
+            )
+            & part_fits(
+                mapper,
+                MapperType::Mmc3,
+                self.mmc3.fits(mode),
+                self.mmc3.is_start(),
+            )
     }
 
     #[tactic(auto, unfolding(crate::specs::Registers::moved))]
     pub fn moved(mut self, mapper: MapperType, mode: Mode, value: u8, address: u16) -> Moved
         ensures { result ≡ moved mapper mode self value address }
     {
-        let uxrom = self.uxrom;
-        let cnrom = self.cnrom;
-        let mmc1 = self.mmc1;
-        let mmc3 = self.mmc3;
+        let mut mirrors = None;
         match mapper {
-            MapperType::Nrom => self.asking(Mirrors::AsBefore),
+            MapperType::Nrom => {}
             MapperType::Mmc1 => {
-                let wrote = mmc1.write8(mode, value, address);
-                let next = wrote.mmc1;
-                let mirrors = wrote.mirrors;
-                self.mmc1 = next;
-                self.asking(mirrors)
+                let wrote = self.mmc1.write8(mode, value, address);
+                self.mmc1 = wrote.left;
+                mirrors = wrote.answer;
             }
-            MapperType::Uxrom => {
-                let next = uxrom.write8(value, address);
-                self.uxrom = next;
-                self.asking(Mirrors::AsBefore)
-            }
-            MapperType::Cnrom => {
-                let next = cnrom.write8(value, address);
-                self.cnrom = next;
-                self.asking(Mirrors::AsBefore)
-            }
+            MapperType::Uxrom => self.uxrom = self.uxrom.write8(value, address),
+            MapperType::Cnrom => self.cnrom = self.cnrom.write8(value, address),
             MapperType::Mmc3 => {
-                let wrote = mmc3.write8(mode, value, address);
-                let next = wrote.mmc3;
-                let mirrors = wrote.mirrors;
-                self.mmc3 = next;
-                self.asking(mirrors)
+                let wrote = self.mmc3.write8(mode, value, address);
+                self.mmc3 = wrote.left;
+                mirrors = wrote.answer;
             }
+        }
+        Outcome {
+            left: self,
+            answer: mirrors,
         }
     }
 
+    #[tactic(auto, unfolding(crate::specs::Registers::ticked, cartridge::specs::Mappers::is_mapper))]
     pub fn ticked(mut self, mapper: MapperType, mode: Mode) -> Ticked
         ensures { result ≡ ticked mapper mode self }
     {
-        let mmc3 = self.mmc3;
-        if mapper.is(MapperType::Mmc3) {
-            let clocked = mmc3.clock(mode);
-            let next = clocked.mmc3;
-            self.mmc3 = next;
-            return Ticked {
-                registers: self,
-                yes: clocked.answer,
-            };
+        let mut yes = false;
+        if let MapperType::Mmc3 = mapper {
+            let clocked = self.mmc3.clock(mode);
+            self.mmc3 = clocked.left;
+            yes = clocked.answer;
         }
-        Ticked {
-            registers: self,
-            yes: false,
+        Outcome {
+            left: self,
+            answer: yes,
         }
     }
 }
 
 // The board that an accepted cartridge starts with.
+#[tactic(auto, unfolding(crate::specs::Start::start_of))]
 fn for_cart(cart: Cartridge) -> Board
     ensures { result ≡ start_of cart }
 {
-    let mapper = cart.mapper;
-    let mirroring = cart.mirroring;
     Board {
         cart,
-        mirroring,
-        registers: Registers::new(mapper),
+        mirroring: cart.mirroring,
+        registers: Registers::new(cart.mapper),
     }
 }
 
-// What stands beside a refused load. Every call refuses it.
+// What a caller may hold after a refused load. Every call refuses it.
+#[tactic(auto, unfolding(crate::specs::Start::no_board))]
 pub fn no_board() -> Board
     ensures { result ≡ no_board }
 {
@@ -250,97 +200,62 @@ pub fn no_board() -> Board
 }
 
 #[tactic(auto, unfolding(crate::specs::Start::loaded_board))]
-fn loaded_board(loaded: cartridge::Loaded) -> Loaded
-    ensures { result ≡ loaded_board loaded }
-{
-    match loaded {
-        cartridge::Loaded::Accepted(cart) => Loaded {
-            board: for_cart(cart),
-            answer: LoadAnswer::Accepted,
-        },
-        cartridge::Loaded::Refused(why) => Loaded {
-            board: no_board(),
-            answer: LoadAnswer::Refused(why),
-        },
-    }
-}
-
-pub fn load(image: &[u8], mode: Mode, prg: &mut [u8], chr: &mut [u8]) -> Loaded
+pub fn load(image: &[u8], mode: Mode, prg: &mut [u8], chr: &mut [u8]) -> Result<Board, Refusal>
     ensures { LoadOwes image.now mode prg.old chr.old result prg.new chr.new }
 {
-    loaded_board(Cartridge::load(image, mode, prg, chr))
+    let cart = Cartridge::load(image, mode, prg, chr)?;
+    Ok(for_cart(cart))
 }
 
 // Where it lands, unless the call is refused first: 9, then 10.
+#[tactic(auto, unfolding(crate::specs::Range::guarded))]
 fn guarded(rams: bool, state: bool, landing: Landing) -> Landing
     ensures { result ≡ guarded rams state landing }
 {
-    if rams {
-        if state {
-            landing
-        } else {
-            Landing::Refused(Refusal::StateOutOfRange)
-        }
+    if !rams {
+        Err(Refusal::RamNot8K)
+    } else if !state {
+        Err(Refusal::StateOutOfRange)
     } else {
-        Landing::Refused(Refusal::RamNot8K)
+        landing
     }
 }
 
-fn next_mirroring(mode: Mode, now: Mirroring, mirrors: Mirrors) -> Mirroring
+#[tactic(auto, unfolding(crate::specs::Write::next_mirroring))]
+fn next_mirroring(mode: Mode, now: Mirroring, mirrors: Option<Mirroring>) -> Mirroring
     ensures { result ≡ next_mirroring mode now mirrors }
 {
     match mode {
         Mode::House => now,
-        Mode::Board => match mirrors {
-            Mirrors::AsBefore => now,
-            Mirrors::As(m) => m,
-        },
+        Mode::Board => mirrors.unwrap_or(now),
     }
 }
 
-fn notice_unless(same: bool, m: Mirroring) -> WriteAnswer
-    ensures { result ≡ notice_unless same m }
-{
-    if same {
-        WriteAnswer::Quiet
-    } else {
-        WriteAnswer::Notice(m)
-    }
-}
-
-fn notice(against: Mirroring, mirrors: Mirrors) -> WriteAnswer
+// A notice of the screens that are asked for, where they are others.
+#[tactic(auto, using(common::proofs::Answers::by_equality), unfolding(crate::specs::Write::notice, crate::specs::Write::notice_unless))]
+fn notice(against: Mirroring, mirrors: Option<Mirroring>) -> WriteAnswer
     ensures { result ≡ notice against mirrors }
 {
     match mirrors {
-        Mirrors::AsBefore => WriteAnswer::Quiet,
-        Mirrors::As(m) => notice_unless(against.same(m), m),
-    }
-}
-
-fn yes_no(yes: bool) -> ClockAnswer
-    ensures { result ≡ yes_no yes }
-{
-    if yes {
-        ClockAnswer::Yes
-    } else {
-        ClockAnswer::No
+        Some(m) => Ok(if against == m { None } else { Some(m) }),
+        None => Ok(None),
     }
 }
 
 // What the real board may have as its current mirroring.
+#[tactic(auto, unfolding(crate::specs::Steps::turned_fit, cartridge::specs::Mappers::is_mapper))]
 pub fn turned_fit(mapper: MapperType, same: bool, headers: bool) -> bool
     ensures { result ≡ turned_fit mapper same headers }
 {
-    if mapper.is(MapperType::Mmc1) {
-        true
-    } else if mapper.is(MapperType::Mmc3) {
-        headers
-    } else {
-        same
+    match mapper {
+        MapperType::Mmc1 => true,
+        MapperType::Mmc3 => headers,
+        _ => same,
     }
 }
 
 // House mode keeps the header's; on the real board MMC1 chooses among four and MMC3 between two.
+#[tactic(auto, unfolding(crate::specs::Steps::screens_by))]
 fn screens_by(mode: Mode, mapper: MapperType, same: bool, headers: bool) -> bool
     ensures { result ≡ screens_by mode mapper same headers }
 {
@@ -351,13 +266,16 @@ fn screens_by(mode: Mode, mapper: MapperType, same: bool, headers: bool) -> bool
 }
 
 // What a cartridge's board may have as its current mirroring.
+#[tactic(auto, using(common::proofs::Answers::by_equality))]
 pub fn screens_fit(cart: Cartridge, now: Mirroring) -> bool
     ensures { result ≡ screens_tested cart now }
 {
-    let header = cart.mirroring;
-    let mode = cart.mode;
-    let mapper = cart.mapper;
-    screens_by(mode, mapper, now.same(header), now.is_headers())
+    screens_by(
+        cart.mode,
+        cart.mapper,
+        now == cart.mirroring,
+        now.is_headers(),
+    )
 }
 
 impl Board {
@@ -366,19 +284,16 @@ impl Board {
     pub fn in_range(self) -> bool
         ensures { result ≡ in_range self }
     {
-        let cart = self.cart;
-        let mapper = cart.mapper;
-        let mode = cart.mode;
-        let registers = self.registers;
-        let now = self.mirroring;
-        cart.could_load() & registers.fits(mapper, mode) & screens_fit(cart, now)
+        self.cart.could_load()
+            & self.registers.fits(self.cart.mapper, self.cart.mode)
+            & screens_fit(self.cart, self.mirroring)
     }
 
+    #[tactic(auto, unfolding(crate::specs::Range::is_loaded))]
     fn is_loaded(self, length: usize) -> bool
         ensures { result ≡ is_loaded self length }
     {
-        let cart = self.cart;
-        self.in_range() & (length == cart.length)
+        self.in_range() & (length == self.cart.length)
     }
 
     #[tactic(auto, unfolding(crate::specs::Read::read_landing, crate::specs::Read::read_window_on))]
@@ -386,18 +301,13 @@ impl Board {
         ensures { result ≡ read_landing self address }
     {
         let cart = self.cart;
-        let mapper = cart.mapper;
         let registers = self.registers;
-        let uxrom = registers.uxrom;
-        let cnrom = registers.cnrom;
-        let mmc1 = registers.mmc1;
-        let mmc3 = registers.mmc3;
-        match mapper {
+        match cart.mapper {
             MapperType::Nrom => nrom::read_landing(cart, address),
-            MapperType::Mmc1 => mmc1.read_landing(cart, address),
-            MapperType::Uxrom => uxrom.read_landing(cart, address),
-            MapperType::Cnrom => cnrom.read_landing(cart, address),
-            MapperType::Mmc3 => mmc3.read_landing(cart, address),
+            MapperType::Mmc1 => registers.mmc1.read_landing(cart, address),
+            MapperType::Uxrom => registers.uxrom.read_landing(cart, address),
+            MapperType::Cnrom => registers.cnrom.read_landing(cart, address),
+            MapperType::Mmc3 => registers.mmc3.read_landing(cart, address),
         }
     }
 
@@ -406,41 +316,26 @@ impl Board {
         ensures { result ≡ write_landing self address }
     {
         let cart = self.cart;
-        let mapper = cart.mapper;
         let registers = self.registers;
-        let uxrom = registers.uxrom;
-        let cnrom = registers.cnrom;
-        let mmc1 = registers.mmc1;
-        let mmc3 = registers.mmc3;
-        match mapper {
+        match cart.mapper {
             MapperType::Nrom => nrom::write_landing(cart, address),
-            MapperType::Mmc1 => mmc1.write_landing(cart, address),
-            MapperType::Uxrom => uxrom.write_landing(cart, address),
-            MapperType::Cnrom => cnrom.write_landing(cart, address),
-            MapperType::Mmc3 => mmc3.write_landing(cart, address),
+            MapperType::Mmc1 => registers.mmc1.write_landing(cart, address),
+            MapperType::Uxrom => registers.uxrom.write_landing(cart, address),
+            MapperType::Cnrom => registers.cnrom.write_landing(cart, address),
+            MapperType::Mmc3 => registers.mmc3.write_landing(cart, address),
         }
     }
 
     // MMC1 reads from the bank itself, which is a part of the lent image.
-    fn byte<'a>(
-        self,
-        landing: Landing,
-        image: &'a [u8],
-        prg: &[u8],
-        chr: &'a [u8],
-        address: u16,
-    ) -> u8
+    #[tactic(auto, unfolding(crate::specs::Read::read_landing, crate::specs::Read::read_window_on))]
+    fn byte(self, landing: Landing, lent: Lent<'_>, address: u16) -> u8
         requires { landing ≡ read_landing self address }
-        ensures { result ≡ byte_at self.cart (read_landing self address) image.now prg.now chr.now }
+        ensures { result ≡ byte_at self.cart (read_landing self address) lent.entry.image.now lent.entry.prg.now lent.entry.chr.now }
     {
-        let cart = self.cart;
-        let mapper = cart.mapper;
-        let registers = self.registers;
-        let mmc1 = registers.mmc1;
-        if mapper.is(MapperType::Mmc1) {
-            return mmc1.read8(cart, image, prg, chr, address);
+        match self.cart.mapper {
+            MapperType::Mmc1 => self.registers.mmc1.read8(self.cart, lent, address),
+            _ => lent.byte_at(self.cart, landing),
         }
-        places::byte_at(cart, landing, image, prg, chr)
     }
 
     // What a notice compares with: the header's in house mode, the current one in board mode.
@@ -448,40 +343,33 @@ impl Board {
     fn against(self) -> Mirroring
         ensures { result ≡ against self }
     {
-        let cart = self.cart;
-        let mode = cart.mode;
-        match mode {
-            Mode::House => cart.mirroring,
+        match self.cart.mode {
+            Mode::House => self.cart.mirroring,
             Mode::Board => self.mirroring,
         }
     }
 
+    // The next board, with the registers and the screens that a write leaves, and its notice.
+    #[tactic(auto, unfolding(crate::specs::Write::turned))]
     fn turned(self, moved: Moved) -> Written
         ensures { result ≡ turned self moved }
     {
-        let cart = self.cart;
-        let mode = cart.mode;
-        let now = self.mirroring;
-        let mirrors = moved.mirrors;
-        let registers = moved.registers;
-        Written {
-            board: Board {
-                cart,
-                mirroring: next_mirroring(mode, now, mirrors),
-                registers,
+        Outcome {
+            left: Board {
+                cart: self.cart,
+                mirroring: next_mirroring(self.cart.mode, self.mirroring, moved.answer),
+                registers: moved.left,
             },
-            answer: notice(self.against(), mirrors),
+            answer: notice(self.against(), moved.answer),
         }
     }
 
+    #[tactic(auto, unfolding(crate::specs::Write::accepted_write))]
     fn accepted_write(self, value: u8, address: u16) -> Written
         ensures { result ≡ accepted_write self value address }
     {
         let cart = self.cart;
-        let mapper = cart.mapper;
-        let mode = cart.mode;
-        let registers = self.registers;
-        self.turned(registers.moved(mapper, mode, value, address))
+        self.turned(self.registers.moved(cart.mapper, cart.mode, value, address))
     }
 
     // A refused write hands the board back as it came.
@@ -490,28 +378,25 @@ impl Board {
         ensures { result ≡ written_as self landing value address }
     {
         match landing {
-            Landing::At(_) => self.accepted_write(value, address),
-            Landing::Refused(why) => Written {
-                board: self,
-                answer: WriteAnswer::Refused(why),
+            Ok(_) => self.accepted_write(value, address),
+            Err(why) => Outcome {
+                left: self,
+                answer: Err(why),
             },
         }
     }
 
+    #[tactic(auto, unfolding(crate::specs::Clock::accepted_clock, crate::specs::Clock::yes_no))]
     fn accepted_clock(self) -> Clocked
         ensures { result ≡ accepted_clock self }
     {
-        let cart = self.cart;
-        let mapper = cart.mapper;
-        let mode = cart.mode;
-        let registers = self.registers;
-        let ticked = registers.ticked(mapper, mode);
-        let mut next = self;
-        let moved = ticked.registers;
-        next.registers = moved;
-        Clocked {
-            board: next,
-            answer: yes_no(ticked.yes),
+        let ticked = self.registers.ticked(self.cart.mapper, self.cart.mode);
+        Outcome {
+            left: Board {
+                registers: ticked.left,
+                ..self
+            },
+            answer: Ok(ticked.answer),
         }
     }
 
@@ -520,27 +405,21 @@ impl Board {
         ensures { result ≡ clock_if fits self }
     {
         if fits {
-            return self.accepted_clock();
-        }
-        Clocked {
-            board: self,
-            answer: ClockAnswer::Refused(Refusal::StateOutOfRange),
+            self.accepted_clock()
+        } else {
+            Outcome {
+                left: self,
+                answer: Err(Refusal::StateOutOfRange),
+            }
         }
     }
 
-    pub fn read_if<'a>(
-        self,
-        fits: bool,
-        image: &'a [u8],
-        prg: &[u8],
-        chr: &'a [u8],
-        address: u16,
-    ) -> ReadAnswer
-        ensures { result ≡ read_if fits self image.now prg.now chr.now address }
+    pub fn read_if(self, fits: bool, lent: Lent<'_>, address: u16) -> ReadAnswer
+        ensures { result ≡ read_if fits self lent.entry.image.now lent.entry.prg.now lent.entry.chr.now address }
     {
         let landing = self.read_landing(address);
-        let byte = self.byte(landing, image, prg, chr, address);
-        let rams = cartridge::rams_fit(prg.len(), chr.len());
+        let byte = self.byte(landing, lent, address);
+        let rams = cartridge::rams_fit(lent.prg.len(), lent.chr.len());
         places::answer_at(guarded(rams, fits, landing), byte)
     }
 
@@ -561,18 +440,22 @@ impl Board {
     }
 
     // The public calls: each judges the state, then serves it.
+    #[tactic(auto, unfolding(crate::specs::Clock::clock))]
     pub fn clock(self) -> Clocked
         ensures { result ≡ clock self }
     {
         self.clock_if(self.in_range())
     }
 
-    pub fn read<'a>(self, image: &'a [u8], prg: &[u8], chr: &'a [u8], address: u16) -> ReadAnswer
-        ensures { result ≡ read self image.now prg.now chr.now address }
+    #[tactic(auto, unfolding(crate::specs::Read::read))]
+    pub fn read(self, lent: Lent<'_>, address: u16) -> ReadAnswer
+        ensures { result ≡ read self lent.entry.image.now lent.entry.prg.now lent.entry.chr.now address }
     {
-        self.read_if(self.is_loaded(image.len()), image, prg, chr, address)
+        self.read_if(self.is_loaded(lent.image.len()), lent, address)
     }
 
+    // The buffers stand apart where RAM is written: the image is lent to be read, both RAMs to be stored in, and C lends three.
+    #[tactic(auto, unfolding(crate::specs::Write::landing))]
     pub fn write(
         self,
         image: &[u8],
@@ -592,30 +475,22 @@ impl Board {
         ensures { PlayOwes (moment self (lent image.now prg.old chr.old)) event result prg.new chr.new }
     {
         match event {
-            Event::Read(address) => {
-                let answer = self.read(image, prg, chr, address);
-                let board = self;
-                Played {
-                    board,
-                    answer: Answer::Read(answer),
-                }
-            }
+            Event::Read(address) => Outcome {
+                left: self,
+                answer: Answer::Read(self.read(Lent { image, prg, chr }, address)),
+            },
             Event::Write(address, value) => {
                 let written = self.write(image, prg, chr, address, value);
-                let board = written.board;
-                let answer = written.answer;
-                Played {
-                    board,
-                    answer: Answer::Write(answer),
+                Outcome {
+                    left: written.left,
+                    answer: Answer::Write(written.answer),
                 }
             }
             Event::Clock => {
                 let clocked = self.clock();
-                let board = clocked.board;
-                let answer = clocked.answer;
-                Played {
-                    board,
-                    answer: Answer::Clock(answer),
+                Outcome {
+                    left: clocked.left,
+                    answer: Answer::Clock(clocked.answer),
                 }
             }
         }

@@ -1,15 +1,13 @@
 -- The header: document 01, "Header (000, iNES)".
-use Rattle.std.specs.Prelude.{ℕ, ◌+◌, ◌*◌, ◌/◌, ◌%◌, Bool, cond, not, ◌&&◌, List, [], ◌∷◌, ltb, eqb, length}
+use Rattle.std.specs.Prelude.{ℕ, ◌+◌, ◌*◌, ◌/◌, ◌%◌, Bool, cond, not, ◌&&◌, List, [], ◌∷◌, ltb, eqb, length, Result, Ok, Err}
 use Rattle.common.specs.Common.{KB8, KB16}
+use Rattle.common.specs.declared.Refusal.{Refusal}
 use Rattle.common.specs.declared.Mirroring.{Mirroring}
 use Rattle.common.specs.declared.Mirroring.TheVariants.{Horizontal, Vertical}
 use Rattle.memory.specs.Memory.{byte}
 use Rattle.cartridge.specs.Refusals.{Row, given, first}
 use Rattle.cartridge.specs.declared.Header.{Header}
-use Rattle.cartridge.specs.declared.Verdict.{Verdict}
-use Rattle.cartridge.specs.declared.Verdict.TheVariants.{Take, Refuse}
-use Rattle.cartridge.specs.declared.HeaderAnswer.{HeaderAnswer}
-use Rattle.cartridge.specs.declared.HeaderAnswer.TheVariants.{Read, Refused}
+use Rattle.cartridge.specs.Refusals.{Verdict}
 
 -- refusals 2 and 3: "bytes 0-3 are not 4E 45 53 1A"
 unfoldable pub is_ines : List ℕ → Bool
@@ -40,10 +38,14 @@ header_refusals s =
     ∷ given 2 (not (is_ines s))
     ∷ []
 
+-- what the header reader answers
+abbrev pub HeaderAnswer : Type 0
+HeaderAnswer = Result Header Refusal
+
 -- "A refusal yields its number only"
 unfoldable pub header_as : Verdict → Header → HeaderAnswer
-header_as Take h = Read h
-header_as (Refuse why) h = Refused why
+header_as (Ok tt) h = Ok h
+header_as (Err why) h = Err why
 
 -- the header reader
 unfoldable pub header_read : List ℕ → HeaderAnswer

@@ -3,4 +3,3 @@ pub mod Refusals
 pub mod Header
 pub mod Nes2
 pub mod Load
-pub mod Steps

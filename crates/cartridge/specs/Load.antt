@@ -1,8 +1,9 @@
 -- The load: what it accepts, in the order of its refusals, and what it leaves.
-use Rattle.std.specs.Prelude.{ℕ, ◌+◌, ◌-◌, ◌*◌, ◌≡◌, Bool, false, cond, not, ◌&&◌, ◌||◌, List, [], ◌∷◌, ltb, leb, eqb, length, replicate}
+use Rattle.std.specs.Prelude.{ℕ, ◌+◌, ◌-◌, ◌*◌, ◌≡◌, Bool, false, cond, not, ◌&&◌, ◌||◌, List, [], ◌∷◌, ltb, leb, eqb, length, replicate, Result, Ok, Err}
 use Rattle.std.specs.Int.Count.{ones}
 use Rattle.common.specs.Common.{KB8, KB16}
 use Rattle.common.specs.Answers.{is_headers}
+use Rattle.common.specs.declared.Refusal.{Refusal}
 use Rattle.common.specs.declared.Mode.{Mode}
 use Rattle.common.specs.declared.Mode.TheVariants.{House, Board}
 use Rattle.memory.specs.Memory.{tail}
@@ -12,10 +13,7 @@ use Rattle.cartridge.specs.Nes2.{is_nes2_in, mapper_in, prg_in, chr_in, nes2_not
 use Rattle.cartridge.specs.Mappers.{mapper_number, mapper_type}
 use Rattle.cartridge.specs.declared.Header.{Header}
 use Rattle.cartridge.specs.declared.Cartridge.{Cartridge}
-use Rattle.cartridge.specs.declared.Verdict.{Verdict}
-use Rattle.cartridge.specs.declared.Verdict.TheVariants.{Take, Refuse}
-use Rattle.cartridge.specs.declared.Loaded.{Loaded}
-use Rattle.cartridge.specs.declared.Loaded.TheVariants.{Accepted, Refused}
+use Rattle.cartridge.specs.Refusals.{Verdict}
 
 -- refusal 8's "power of two", by M-104's "count of one bits"; `ones`, the toolchain's, is opened with it
 unfoldable pub is_power : ℕ → Bool
@@ -74,10 +72,14 @@ cartridge_of h mode len =
       length = len;
     }
 
+-- what a load answers; the image stays the caller's
+abbrev pub Loaded : Type 0
+Loaded = Result Cartridge Refusal
+
 -- "A refusal yields its number only"
 unfoldable pub loaded_as : Verdict → Cartridge → Loaded
-loaded_as Take c = Accepted c
-loaded_as (Refuse why) c = Refused why
+loaded_as (Ok tt) c = Ok c
+loaded_as (Err why) c = Err why
 
 -- the load of an image: the cartridge, or the refusal
 abbrev pub load : List ℕ → Mode → ℕ → ℕ → Loaded
@@ -85,8 +87,8 @@ load s mode prg chr = loaded_as (verdict s mode prg chr) (cartridge_of (header_o
 
 -- "An accepted load fills both RAMs with zero"; after a refusal they hold what they held
 unfoldable pub ram_after : Verdict → List ℕ → List ℕ
-ram_after Take ram = replicate (length ram) 0
-ram_after (Refuse why) ram = ram
+ram_after (Ok tt) ram = replicate (length ram) 0
+ram_after (Err why) ram = ram
 
 -- what a load owes its caller: the reply and both RAMs
 pub record LoadOwes (s : List ℕ) (mode : Mode) (prg chr : List ℕ) (r : Loaded) (prg' chr' : List ℕ) : Type 0 where

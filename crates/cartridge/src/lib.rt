@@ -3,11 +3,10 @@
 #![tactic(auto)]
 
 ghost use Rattle.std.specs.Prelude.{◌≡◌, ◌+◌, ◌*◌, length};
-ghost use Rattle.cartridge.specs.Mappers.{mapper_number, is_mapper, mapper_type};
+ghost use Rattle.cartridge.specs.Mappers.{mapper_number, mapper_type};
 ghost use Rattle.cartridge.specs.Header.{is_ines, header_of, header_read, total_size, mapper_of, mirroring_of, is_nes2, is_special};
 ghost use Rattle.cartridge.specs.Nes2.{is_nes2_in, extended, longer, mapper_in, prg_in, chr_in, has_submapper, has_exponent, is_shifts, says_otherwise, nes2_not_taken, has_prg_ram};
-ghost use Rattle.cartridge.specs.Load.{is_power, no_powers, bad_prg, needed, rams_fit, verdict, cartridge_of, loaded_as, ram_after, LoadOwes, prg_total, has_chr_ram, chr_total, prg_rom, chr_rom, chr_data, last_prg, counts_end, prg_ram_fits, could_load};
-ghost use Rattle.cartridge.specs.Steps.{header_answer, first_of, verdict_on};
+ghost use Rattle.cartridge.specs.Load.{is_power, no_powers, bad_prg, needed, rams_fit, verdict, cartridge_of, LoadOwes, prg_total, has_chr_ram, chr_total, prg_rom, chr_rom, chr_data, last_prg, counts_end, prg_ram_fits, could_load};
 
 use common::{Mirroring, Mode, Refusal, kilobytes};
 use memory::byte_at;
@@ -19,7 +18,7 @@ const PRG_ROM_BLOCK_SIZE: u32 = kilobytes::KB16;
 const CHR_ROM_BLOCK_SIZE: u32 = kilobytes::KB8;
 
 // Bytes 4 to 15 as they stand; byte 4 counts PRG blocks, byte 5 CHR blocks.
-#[derive(Clone, Copy)]
+#[derive(Clone, Copy, Debug, PartialEq, Eq)]
 pub struct Header {
     pub prg: u8,
     pub chr: u8,
@@ -35,18 +34,19 @@ pub struct Header {
     pub flags15: u8,
 }
 
-#[derive(Clone, Copy)]
-pub enum HeaderAnswer {
-    Read(Header),
-    Refused(Refusal),
-}
-
 impl Header {
     // The header reader.
-    pub fn parse(bin: &[u8]) -> HeaderAnswer
+    #[tactic(auto, unfolding(crate::specs::Header::header_read, crate::specs::Header::header_as))]
+    pub fn parse(bin: &[u8]) -> Result<Header, Refusal>
         ensures { result ≡ header_read bin.now }
     {
-        header_answer(bin.len() < 16, is_ines(bin), read_header(bin))
+        if bin.len() < 16 {
+            Err(Refusal::HeaderTooShort)
+        } else if !is_ines(bin) {
+            Err(Refusal::HeaderNotInes)
+        } else {
+            Ok(read_header(bin))
+        }
     }
 
     pub fn total_size_excluding_header(self) -> u32
@@ -61,6 +61,7 @@ impl Header {
         self.flags7 / 16 * 16 + self.flags6 / 16
     }
 
+    #[tactic(auto, unfolding(crate::specs::Header::mirroring_of))]
     fn mirroring(self) -> Mirroring
         ensures { result ≡ mirroring_of self }
     {
@@ -101,24 +102,28 @@ impl Header {
         }
     }
 
+    #[tactic(auto, unfolding(crate::specs::Nes2::mapper_in))]
     fn mapper_in(self, mode: Mode) -> u16
         ensures { result ≡ mapper_in mode self }
     {
         self.longer(mode, self.mapper(), self.flags8 % 16)
     }
 
+    #[tactic(auto, unfolding(crate::specs::Nes2::prg_in))]
     fn prg_in(self, mode: Mode) -> u16
         ensures { result ≡ prg_in mode self }
     {
         self.longer(mode, self.prg, self.flags9 % 16)
     }
 
+    #[tactic(auto, unfolding(crate::specs::Nes2::chr_in))]
     fn chr_in(self, mode: Mode) -> u16
         ensures { result ≡ chr_in mode self }
     {
         self.longer(mode, self.chr, self.flags9 / 16)
     }
 
+    #[tactic(auto, unfolding(crate::specs::Nes2::has_submapper))]
     fn has_submapper(self) -> bool
         ensures { result ≡ has_submapper self }
     {
@@ -126,6 +131,7 @@ impl Header {
     }
 
     // A count as a power of two and a multiplier, which no image of ours needs.
+    #[tactic(auto, unfolding(crate::specs::Nes2::has_exponent))]
     fn has_exponent(self) -> bool
         ensures { result ≡ has_exponent self }
     {
@@ -133,6 +139,7 @@ impl Header {
     }
 
     // Refusal 16.
+    #[tactic(auto, unfolding(crate::specs::Nes2::nes2_not_taken))]
     fn nes2_not_taken(self, mode: Mode) -> bool
         ensures { result ≡ nes2_not_taken mode self }
     {
@@ -145,6 +152,7 @@ impl Header {
     }
 
     // An iNES header does not say; the boards have it.
+    #[tactic(auto, unfolding(crate::specs::Nes2::has_prg_ram))]
     fn has_prg_ram(self, mode: Mode) -> bool
         ensures { result ≡ has_prg_ram mode self }
     {
@@ -157,6 +165,7 @@ impl Header {
 }
 
 // House mode knows no NES 2.0: the mark changes nothing there.
+#[tactic(auto, unfolding(crate::specs::Nes2::is_nes2_in))]
 fn is_nes2_in(mode: Mode, mark: bool) -> bool
     ensures { result ≡ is_nes2_in mode mark }
 {
@@ -167,6 +176,7 @@ fn is_nes2_in(mode: Mode, mark: bool) -> bool
 }
 
 // Two shifts of a RAM, without a battery and with one: none of it, or 8 KB of one kind.
+#[tactic(auto, unfolding(crate::specs::Nes2::is_shifts))]
 fn is_shifts(byte: u8) -> bool
     ensures { result ≡ is_shifts byte }
 {
@@ -174,25 +184,15 @@ fn is_shifts(byte: u8) -> bool
 }
 
 // Byte 11 has CHR RAM beside CHR blocks, or none where there are no blocks.
+#[tactic(auto, unfolding(crate::specs::Nes2::says_otherwise))]
 fn says_otherwise(chr: u16, byte11: u8) -> bool
     ensures { result ≡ says_otherwise chr byte11 }
 {
     ((chr == 0) & (byte11 == 0)) | ((chr != 0) & (byte11 != 0))
 }
 
-fn header_answer(short: bool, ines: bool, h: Header) -> HeaderAnswer
-    ensures { result ≡ header_answer short ines h }
-{
-    if short {
-        HeaderAnswer::Refused(Refusal::HeaderTooShort)
-    } else if ines {
-        HeaderAnswer::Read(h)
-    } else {
-        HeaderAnswer::Refused(Refusal::HeaderNotInes)
-    }
-}
-
 // Bytes 0 to 3 are 4E 45 53 1A, "NES" and an end of file.
+#[tactic(auto, unfolding(crate::specs::Header::is_ines))]
 fn is_ines(bin: &[u8]) -> bool
     ensures { result ≡ is_ines bin.now }
 {
@@ -202,6 +202,7 @@ fn is_ines(bin: &[u8]) -> bool
         & (byte_at(bin, 3) == 0x1A)
 }
 
+#[tactic(auto, unfolding(crate::specs::Header::header_of))]
 fn read_header(bin: &[u8]) -> Header
     ensures { result ≡ header_of bin.now }
 {
@@ -221,55 +222,42 @@ fn read_header(bin: &[u8]) -> Header
     }
 }
 
-#[derive(Clone, Copy)]
+// The boards by their numbers.
+#[derive(Clone, Copy, Debug, PartialEq, Eq)]
 pub enum MapperType {
-    Nrom,
-    Mmc1,
-    Uxrom,
-    Cnrom,
-    Mmc3,
+    Nrom = 0,
+    Mmc1 = 1,
+    Uxrom = 2,
+    Cnrom = 3,
+    Mmc3 = 4,
 }
 
-impl MapperType {
-    pub fn number(self) -> u8
-        ensures { result ≡ mapper_number self }
+impl From<MapperType> for u8 {
+    fn from(mapper: MapperType) -> u8
+        ensures { result ≡ mapper_number mapper }
     {
-        match self {
-            MapperType::Nrom => 0,
-            MapperType::Mmc1 => 1,
-            MapperType::Uxrom => 2,
-            MapperType::Cnrom => 3,
-            MapperType::Mmc3 => 4,
-        }
+        mapper as u8
     }
+}
 
-    // For what sets one board apart from all others.
-    pub fn is(self, other: MapperType) -> bool
-        ensures { result ≡ is_mapper self other }
-    {
-        self.number() == other.number()
-    }
-
-    // The board of a number up to 4; the load refuses the others.
-    pub fn numbered(number: u16) -> MapperType
+// The board of a number up to 4; the load refuses the others.
+impl From<u16> for MapperType {
+    #[tactic(auto, unfolding(crate::specs::Mappers::mapper_type))]
+    fn from(number: u16) -> MapperType
         ensures { result ≡ mapper_type number }
     {
-        if number == 0 {
-            MapperType::Nrom
-        } else if number == 1 {
-            MapperType::Mmc1
-        } else if number == 2 {
-            MapperType::Uxrom
-        } else if number == 3 {
-            MapperType::Cnrom
-        } else {
-            MapperType::Mmc3
+        match number {
+            0 => MapperType::Nrom,
+            1 => MapperType::Mmc1,
+            2 => MapperType::Uxrom,
+            3 => MapperType::Cnrom,
+            _ => MapperType::Mmc3,
         }
     }
 }
 
 // What a load keeps of an image. The bytes stay the caller's.
-#[derive(Clone, Copy)]
+#[derive(Clone, Copy, Debug, PartialEq, Eq)]
 pub struct Cartridge {
     pub mode: Mode,
     pub mapper: MapperType,
@@ -287,6 +275,7 @@ pub struct Cartridge {
 
 impl Cartridge {
     // The PRG data, which begins at byte 16, as a part of the lent image.
+    #[tactic(auto, unfolding(crate::specs::Load::prg_rom))]
     pub fn prg_rom(self, image: &[u8]) -> &[u8]
         ensures { result.now ≡ prg_rom image.now }
     {
@@ -294,6 +283,7 @@ impl Cartridge {
     }
 
     // The CHR data, which follows the PRG data.
+    #[tactic(auto, unfolding(crate::specs::Load::chr_rom))]
     pub fn chr_rom(self, image: &[u8]) -> &[u8]
         ensures { result.now ≡ chr_rom self image.now }
     {
@@ -302,6 +292,7 @@ impl Cartridge {
     }
 
     // CHR RAM where there is any, else the CHR data.
+    #[tactic(auto, unfolding(crate::specs::Load::chr_data))]
     pub fn chr_data<'a>(self, image: &'a [u8], ram: &'a [u8]) -> &'a [u8]
         ensures { result.now ≡ chr_data self image.now ram.now }
     {
@@ -319,14 +310,11 @@ impl Cartridge {
     }
 
     // The last 16 KB bank, 0 where there is none.
+    #[tactic(auto, unfolding(crate::specs::Load::last_prg))]
     pub fn last_prg(self) -> u32
         ensures { result ≡ last_prg self }
     {
-        if self.prg == 0 {
-            0
-        } else {
-            (self.prg as u32) - 1
-        }
+        (self.prg as u32).saturating_sub(1)
     }
 
     pub fn has_chr_ram(self) -> bool
@@ -335,6 +323,7 @@ impl Cartridge {
         self.chr == 0
     }
 
+    #[tactic(auto, unfolding(crate::specs::Load::chr_total))]
     pub fn chr_total(self) -> u32
         ensures { result ≡ chr_total self }
     {
@@ -346,26 +335,24 @@ impl Cartridge {
     }
 
     // Every field is as a load could leave it.
+    #[tactic(auto, unfolding(crate::specs::Load::could_load))]
     pub fn could_load(self) -> bool
         ensures { result ≡ could_load self }
     {
-        let mapper = self.mapper;
-        let mode = self.mode;
-        let mirroring = self.mirroring;
-        let end = counts_end(mode, self.nes2);
-        let counts = !bad_prg(mapper.number() as u16, self.prg)
-            & !no_powers(mode, self.prg as u64, self.chr as u64);
+        let end = counts_end(self.mode, self.nes2);
+        let counts = !bad_prg(u8::from(self.mapper) as u16, self.prg)
+            & !no_powers(self.mode, self.prg as u64, self.chr as u64);
         let size = (self.prg < end)
             & (self.chr < end)
             & ((needed(self.prg, self.chr) as usize) <= self.length);
-        counts & size & mirroring.is_headers() & self.prg_ram_fits()
+        counts & size & self.mirroring.is_headers() & self.prg_ram_fits()
     }
 
+    #[tactic(auto, unfolding(crate::specs::Load::prg_ram_fits))]
     fn prg_ram_fits(self) -> bool
         ensures { result ≡ prg_ram_fits self }
     {
-        let mode = self.mode;
-        self.prgram | is_nes2_in(mode, self.nes2)
+        self.prgram | is_nes2_in(self.mode, self.nes2)
     }
 }
 
@@ -378,6 +365,7 @@ fn counts_end(mode: Mode, mark: bool) -> u16
 }
 
 // In a power of two exactly one bit is 1, and in no other number.
+#[tactic(auto, unfolding(crate::specs::Load::is_power))]
 fn is_power_of_two(n: u64) -> bool
     ensures { result ≡ is_power n }
 {
@@ -386,6 +374,7 @@ fn is_power_of_two(n: u64) -> bool
 
 // Refusal 8: a PRG count, or a CHR count that is not 0, is no power of two. Board mode only. Counts are as
 // wide as a word of a kept state, whose calls judge it by this.
+#[tactic(auto, unfolding(crate::specs::Load::no_powers))]
 pub fn no_powers(mode: Mode, prg: u64, chr: u64) -> bool
     ensures { result ≡ no_powers mode prg chr }
 {
@@ -396,6 +385,7 @@ pub fn no_powers(mode: Mode, prg: u64, chr: u64) -> bool
 }
 
 // Refusal 6. NROM and CNROM have no more than two blocks.
+#[tactic(auto, unfolding(crate::specs::Load::bad_prg))]
 fn bad_prg(mapper: u16, prg: u16) -> bool
     ensures { result ≡ bad_prg mapper prg }
 {
@@ -409,92 +399,51 @@ fn needed(prg: u16, chr: u16) -> u32
     HEADER_SIZE + (prg as u32) * PRG_ROM_BLOCK_SIZE + (chr as u32) * CHR_ROM_BLOCK_SIZE
 }
 
-// What a load decides.
-#[derive(Clone, Copy)]
-pub enum Verdict {
-    Take,
-    Refuse(Refusal),
-}
-
-// The first of the refusals that holds, in the order of a load.
-fn first_of(
-    b9: bool,
-    b3: bool,
-    b4: bool,
-    b5: bool,
-    b16: bool,
-    b6: bool,
-    b7: bool,
-    b8: bool,
-) -> Verdict
-    ensures { result ≡ first_of b9 b3 b4 b5 b16 b6 b7 b8 }
-{
-    if b9 {
-        Verdict::Refuse(Refusal::RamNot8K)
-    } else if b3 {
-        Verdict::Refuse(Refusal::ImageNotInes)
-    } else if b4 {
-        Verdict::Refuse(Refusal::MapperNotTaken)
-    } else if b5 {
-        Verdict::Refuse(Refusal::TrainerOrFourScreen)
-    } else if b16 {
-        Verdict::Refuse(Refusal::Nes2NotTaken)
-    } else if b6 {
-        Verdict::Refuse(Refusal::PrgCountNotTaken)
-    } else if b7 {
-        Verdict::Refuse(Refusal::ImageTooShort)
-    } else if b8 {
-        Verdict::Refuse(Refusal::CountNoPowerOfTwo)
-    } else {
-        Verdict::Take
-    }
-}
-
-fn verdict_on(h: Header, ines: bool, len: usize, mode: Mode, rams: bool) -> Verdict
-    ensures { result ≡ verdict_on h ines len mode rams }
-{
-    let mapper = h.mapper_in(mode);
-    let prg = h.prg_in(mode);
-    let chr = h.chr_in(mode);
-    let short = len < (needed(prg, chr) as usize);
-    let counts = no_powers(mode, prg as u64, chr as u64);
-    first_of(
-        !rams,
-        (len < 16400) | !ines,
-        4 < mapper,
-        h.is_special(),
-        h.nes2_not_taken(mode),
-        bad_prg(mapper, prg),
-        short,
-        counts,
-    )
-}
-
 // Refusal 9. Both RAMs are lent whole, used or not.
+#[tactic(auto, unfolding(crate::specs::Load::rams_fit))]
 pub fn rams_fit(prg: usize, chr: usize) -> bool
     ensures { result ≡ rams_fit prg chr }
 {
     (prg == 8192) & (chr == 8192)
 }
 
-fn judge(image: &[u8], mode: Mode, prg: usize, chr: usize) -> Verdict
+// What a load decides: the first refusal that is due, in the order of a load.
+#[tactic(auto, unfolding(crate::specs::Load::verdict))]
+fn judge(image: &[u8], mode: Mode, prg: usize, chr: usize) -> Result<(), Refusal>
     ensures { result ≡ verdict image.now mode prg chr }
 {
-    verdict_on(
-        read_header(image),
-        is_ines(image),
-        image.len(),
-        mode,
-        rams_fit(prg, chr),
-    )
+    let header = read_header(image);
+    let mapper = header.mapper_in(mode);
+    let blocks = header.prg_in(mode);
+    let chr_blocks = header.chr_in(mode);
+    if !rams_fit(prg, chr) {
+        Err(Refusal::RamNot8K)
+    } else if (image.len() < 16400) | !is_ines(image) {
+        Err(Refusal::ImageNotInes)
+    } else if 4 < mapper {
+        Err(Refusal::MapperNotTaken)
+    } else if header.is_special() {
+        Err(Refusal::TrainerOrFourScreen)
+    } else if header.nes2_not_taken(mode) {
+        Err(Refusal::Nes2NotTaken)
+    } else if bad_prg(mapper, blocks) {
+        Err(Refusal::PrgCountNotTaken)
+    } else if image.len() < (needed(blocks, chr_blocks) as usize) {
+        Err(Refusal::ImageTooShort)
+    } else if no_powers(mode, blocks as u64, chr_blocks as u64) {
+        Err(Refusal::CountNoPowerOfTwo)
+    } else {
+        Ok(())
+    }
 }
 
+#[tactic(auto, unfolding(crate::specs::Load::cartridge_of))]
 fn cartridge_of(h: Header, mode: Mode, len: usize) -> Cartridge
     ensures { result ≡ cartridge_of h mode len }
 {
     Cartridge {
         mode,
-        mapper: MapperType::numbered(h.mapper_in(mode)),
+        mapper: MapperType::from(h.mapper_in(mode)),
         nes2: h.is_nes2(),
         mirroring: h.mirroring(),
         prgram: h.has_prg_ram(mode),
@@ -504,41 +453,20 @@ fn cartridge_of(h: Header, mode: Mode, len: usize) -> Cartridge
     }
 }
 
-// What a load answers. The image stays the caller's.
-#[derive(Clone, Copy)]
-pub enum Loaded {
-    Accepted(Cartridge),
-    Refused(Refusal),
-}
-
-#[tactic(auto, unfolding(crate::specs::Load::loaded_as))]
-fn loaded_as(v: Verdict, c: Cartridge) -> Loaded
-    ensures { result ≡ loaded_as v c }
-{
-    match v {
-        Verdict::Take => Loaded::Accepted(c),
-        Verdict::Refuse(why) => Loaded::Refused(why),
-    }
-}
-
-#[tactic(auto, unfolding(crate::specs::Load::ram_after))]
-fn clear_if_taken(v: Verdict, ram: &mut [u8])
-    ensures { ram.new ≡ ram_after v ram.old }
-{
-    match v {
-        Verdict::Take => memory::clear(ram),
-        Verdict::Refuse(_) => {}
-    }
-}
-
 impl Cartridge {
-    // An accepted load fills both RAMs with zero; a refused one leaves them.
-    pub fn load(image: &[u8], mode: Mode, prg: &mut [u8], chr: &mut [u8]) -> Loaded
+    // An accepted load fills both RAMs with zero; a refused one leaves them. The image stays the caller's.
+    #[tactic(auto, unfolding(crate::specs::Load::loaded_as, crate::specs::Load::ram_after))]
+    pub fn load(
+        image: &[u8],
+        mode: Mode,
+        prg: &mut [u8],
+        chr: &mut [u8],
+    ) -> Result<Cartridge, Refusal>
         ensures { LoadOwes image.now mode prg.old chr.old result prg.new chr.new }
     {
-        let v = judge(image, mode, prg.len(), chr.len());
-        clear_if_taken(v, prg);
-        clear_if_taken(v, chr);
-        loaded_as(v, cartridge_of(read_header(image), mode, image.len()))
+        judge(image, mode, prg.len(), chr.len())?;
+        memory::clear(prg);
+        memory::clear(chr);
+        Ok(cartridge_of(read_header(image), mode, image.len()))
     }
 }

@@ -1,12 +1,14 @@
--- A refusal is the one under its number, and its number the one that it stands under; two mirrorings are one exactly when `same` says so, or their letters do: by all cases. Assumes nothing.
+-- A refusal is the one under its number, and its number the one that it stands under; two mirrorings are one exactly when `same` says so, or `==` of the code: by all cases. Assumes nothing.
 use Prim.Native.Nat.{ℕ}
-use mathlib.Core.Path.{◌≡◌, refl}
-use mathlib.Core.Bool.{true, false≢true}
+use mathlib.Core.Path.{◌≡◌, refl, ◌∙◌}
+use mathlib.Core.Bool.{true}
+use borrow.Author.Rules.{rules}
 use mathlib.Core.List.{[], ◌∷◌, map}
-use lib.Dec.{eqb}
-use Rattle.common.specs.Answers.{refusal_number, no, mirroring_letter, same}
+use denote.Enum.Bare.{sameb, same_true}
+use Rattle.common.specs.Answers.{refusal_number, no, same}
 use Rattle.common.specs.declared.Refusal.{Refusal}
 use Rattle.common.specs.declared.Refusal.TheVariants.{HeaderTooShort, HeaderNotInes, ImageNotInes, MapperNotTaken, TrainerOrFourScreen, PrgCountNotTaken, ImageTooShort, CountNoPowerOfTwo, RamNot8K, StateOutOfRange, BankPastData, NoChrRam, NoSuchPlace, IrqPending, TraceMalformed, Nes2NotTaken}
+use Rattle.common.specs.contracts.Mirroring.{the_type}
 use Rattle.common.specs.declared.Mirroring.{Mirroring}
 use Rattle.common.specs.declared.Mirroring.TheVariants.{Horizontal, Vertical, SingleScreenUpper, SingleScreenLower}
 
@@ -40,20 +42,17 @@ by_mirroring P h v u l Vertical = v
 by_mirroring P h v u l SingleScreenUpper = u
 by_mirroring P h v u l SingleScreenLower = l
 
-pub by_letters : (a b : Mirroring) → eqb (mirroring_letter a) (mirroring_letter b) ≡ same a b
+-- `==` of the code
+pub by_equality : (a b : Mirroring) → sameb the_type a b ≡ same a b
 unfolding same
-by_letters Horizontal b = by_mirroring (λ (m : Mirroring). eqb (mirroring_letter Horizontal) (mirroring_letter m) ≡ same Horizontal m) refl refl refl refl b
-by_letters Vertical b = by_mirroring (λ (m : Mirroring). eqb (mirroring_letter Vertical) (mirroring_letter m) ≡ same Vertical m) refl refl refl refl b
-by_letters SingleScreenUpper b = by_mirroring (λ (m : Mirroring). eqb (mirroring_letter SingleScreenUpper) (mirroring_letter m) ≡ same SingleScreenUpper m) refl refl refl refl b
-by_letters SingleScreenLower b = by_mirroring (λ (m : Mirroring). eqb (mirroring_letter SingleScreenLower) (mirroring_letter m) ≡ same SingleScreenLower m) refl refl refl refl b
+by_equality Horizontal b = by_mirroring (λ (m : Mirroring). sameb the_type Horizontal m ≡ same Horizontal m) refl refl refl refl b
+by_equality Vertical b = by_mirroring (λ (m : Mirroring). sameb the_type Vertical m ≡ same Vertical m) refl refl refl refl b
+by_equality SingleScreenUpper b = by_mirroring (λ (m : Mirroring). sameb the_type SingleScreenUpper m ≡ same SingleScreenUpper m) refl refl refl refl b
+by_equality SingleScreenLower b = by_mirroring (λ (m : Mirroring). sameb the_type SingleScreenLower m ≡ same SingleScreenLower m) refl refl refl refl b
 
 pub same_self : (m : Mirroring) → same m m ≡ true
 unfolding same
 same_self m = by_mirroring (λ (x : Mirroring). same x x ≡ true) refl refl refl refl m
 
 pub same_is : (a b : Mirroring) → same a b ≡ true → a ≡ b
-unfolding same
-same_is Horizontal b = by_mirroring (λ (m : Mirroring). same Horizontal m ≡ true → Horizontal ≡ m) (λ e. refl) (λ e. absurd (false≢true e)) (λ e. absurd (false≢true e)) (λ e. absurd (false≢true e)) b
-same_is Vertical b = by_mirroring (λ (m : Mirroring). same Vertical m ≡ true → Vertical ≡ m) (λ e. absurd (false≢true e)) (λ e. refl) (λ e. absurd (false≢true e)) (λ e. absurd (false≢true e)) b
-same_is SingleScreenUpper b = by_mirroring (λ (m : Mirroring). same SingleScreenUpper m ≡ true → SingleScreenUpper ≡ m) (λ e. absurd (false≢true e)) (λ e. absurd (false≢true e)) (λ e. refl) (λ e. absurd (false≢true e)) b
-same_is SingleScreenLower b = by_mirroring (λ (m : Mirroring). same SingleScreenLower m ≡ true → SingleScreenLower ≡ m) (λ e. absurd (false≢true e)) (λ e. absurd (false≢true e)) (λ e. absurd (false≢true e)) (λ e. refl) b
+same_is a b e = same_true the_type (search rules) a b (by_equality a b ∙ e)

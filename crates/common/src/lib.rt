@@ -1,13 +1,13 @@
-// What every crate above uses: the two modes, the mirrorings, the refusals, the sizes, the test of bit 7.
+// What every crate above uses: the two modes, the mirrorings, the refusals, what a call leaves and answers, the sizes, the test of bit 7.
 // Ported from potatis common/src/lib.rs.
 #![tactic(auto)]
 
 ghost use Rattle.std.specs.Prelude.{◌≡◌};
 ghost use Rattle.common.specs.Common.{is_signed, mode_number, mode_of};
-ghost use Rattle.common.specs.Answers.{refusal_number, mirroring_letter, same, is_headers};
+ghost use Rattle.common.specs.Answers.{refusal_number, mirroring_letter, is_headers};
 
 // A title gets one of the two at release and never leaves it.
-#[derive(Clone, Copy)]
+#[derive(Clone, Copy, Debug, PartialEq, Eq)]
 pub enum Mode {
     // Answers as the Rust does, oddities included.
     House,
@@ -15,30 +15,29 @@ pub enum Mode {
     Board,
 }
 
-impl Mode {
-    // As a trace writes it.
-    pub fn number(self) -> u8
-        ensures { result ≡ mode_number self }
+// As a trace writes it.
+impl From<Mode> for u8 {
+    fn from(mode: Mode) -> u8
+        ensures { result ≡ mode_number mode }
     {
-        match self {
-            Mode::House => 0,
-            Mode::Board => 1,
-        }
+        mode as u8
     }
+}
 
-    pub fn numbered(number: u8) -> Mode
+impl From<u8> for Mode {
+    #[tactic(auto, unfolding(crate::specs::Common::mode_of))]
+    fn from(number: u8) -> Mode
         ensures { result ≡ mode_of number }
     {
-        if number == 0 {
-            Mode::House
-        } else {
-            Mode::Board
+        match number {
+            0 => Mode::House,
+            _ => Mode::Board,
         }
     }
 }
 
 // The Rust has a fifth, HardwiredFourScreen, which is never answered: such an image is refused first.
-#[derive(Clone, Copy)]
+#[derive(Clone, Copy, Debug, PartialEq, Eq)]
 pub enum Mirroring {
     Horizontal,
     Vertical,
@@ -46,15 +45,15 @@ pub enum Mirroring {
     SingleScreenLower,
 }
 
-// What a write asks of the screens.
-#[derive(Clone, Copy)]
-pub enum Mirrors {
-    AsBefore,
-    As(Mirroring),
+// What a call leaves of a board, or of a part of one, and what it answers.
+#[derive(Clone, Copy, Debug, PartialEq, Eq)]
+pub struct Outcome<S, A> {
+    pub left: S,
+    pub answer: A,
 }
 
 impl Mirroring {
-    // As a trace prints it.
+    // As a trace prints it, and as C is told it: the number of a notice (docs/ABI.md).
     pub fn letter(self) -> u8
         ensures { result ≡ mirroring_letter self }
     {
@@ -66,68 +65,40 @@ impl Mirroring {
         }
     }
 
-    pub fn same(self, other: Mirroring) -> bool
-        ensures { result ≡ same self other }
-    {
-        self.letter() == other.letter()
-    }
-
     // One that a header can ask for.
     pub fn is_headers(self) -> bool
         ensures { result ≡ is_headers self }
     {
-        match self {
-            Mirroring::Horizontal => true,
-            Mirroring::Vertical => true,
-            Mirroring::SingleScreenUpper => false,
-            Mirroring::SingleScreenLower => false,
-        }
+        matches!(self, Mirroring::Horizontal | Mirroring::Vertical)
     }
 }
 
-// What is wrong with an image, a call or a trace. Each has its number in the paper.
-#[derive(Clone, Copy)]
+// What is wrong with an image, a call or a trace, by its number in the paper.
+#[derive(Clone, Copy, Debug, PartialEq, Eq)]
 pub enum Refusal {
-    HeaderTooShort,
-    HeaderNotInes,
-    ImageNotInes,
-    MapperNotTaken,
-    TrainerOrFourScreen,
-    PrgCountNotTaken,
-    ImageTooShort,
-    CountNoPowerOfTwo,
-    RamNot8K,
-    StateOutOfRange,
-    BankPastData,
-    NoChrRam,
-    NoSuchPlace,
-    IrqPending,
-    TraceMalformed,
-    Nes2NotTaken,
+    HeaderTooShort = 1,
+    HeaderNotInes = 2,
+    ImageNotInes = 3,
+    MapperNotTaken = 4,
+    TrainerOrFourScreen = 5,
+    PrgCountNotTaken = 6,
+    ImageTooShort = 7,
+    CountNoPowerOfTwo = 8,
+    RamNot8K = 9,
+    StateOutOfRange = 10,
+    BankPastData = 11,
+    NoChrRam = 12,
+    NoSuchPlace = 13,
+    IrqPending = 14,
+    TraceMalformed = 15,
+    Nes2NotTaken = 16,
 }
 
-impl Refusal {
-    pub fn number(self) -> u8
-        ensures { result ≡ refusal_number self }
+impl From<Refusal> for u8 {
+    fn from(why: Refusal) -> u8
+        ensures { result ≡ refusal_number why }
     {
-        match self {
-            Refusal::HeaderTooShort => 1,
-            Refusal::HeaderNotInes => 2,
-            Refusal::ImageNotInes => 3,
-            Refusal::MapperNotTaken => 4,
-            Refusal::TrainerOrFourScreen => 5,
-            Refusal::PrgCountNotTaken => 6,
-            Refusal::ImageTooShort => 7,
-            Refusal::CountNoPowerOfTwo => 8,
-            Refusal::RamNot8K => 9,
-            Refusal::StateOutOfRange => 10,
-            Refusal::BankPastData => 11,
-            Refusal::NoChrRam => 12,
-            Refusal::NoSuchPlace => 13,
-            Refusal::IrqPending => 14,
-            Refusal::TraceMalformed => 15,
-            Refusal::Nes2NotTaken => 16,
-        }
+        why as u8
     }
 }
 

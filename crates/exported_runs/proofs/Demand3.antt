@@ -1,5 +1,6 @@
 -- The forty bytes hold the boards that the same histories reach in Rattle, and the numbers are those of their answers, so what demand 3 says of such boards
 -- holds of the bytes and the numbers. Assumes nothing.
+use Rattle.std.specs.Prelude.{Ok}
 use Prim.Native.Nat.{ℕ, ◌+◌, ◌≤◌}
 use mathlib.Core.Path.{◌≡◌, refl, sym, ap, subst, subst⁻¹, ◌∙◌}
 use mathlib.Core.Bool.{not}
@@ -10,15 +11,13 @@ use Rattle.cartridge.specs.Header.{header_of}
 use Rattle.cartridge.specs.Load.{verdict, cartridge_of, loaded_as}
 use Rattle.cartridge.specs.declared.Cartridge.{Cartridge}
 use Rattle.cartridge.specs.declared.MapperType.{MapperType}
-use Rattle.cartridge.specs.declared.Verdict.{Verdict}
-use Rattle.cartridge.specs.declared.Verdict.TheVariants.{Take}
+use Rattle.cartridge.specs.Refusals.{Verdict}
 use Rattle.mmc1.specs.declared.Register.{Register}
-use Rattle.boards.specs.Start.{start_of, loaded_board}
+use Rattle.boards.specs.Start.{start_of, loaded_board, load_answer, board_of}
 use Rattle.boards.specs.Runs.{Call, call, next, after}
 use Rattle.boards.specs.declared.Board.{Board}
 use Rattle.boards.specs.declared.Event.TheVariants.{Write, Clock}
-use Rattle.boards.specs.declared.ClockAnswer.{ClockAnswer}
-use Rattle.boards.specs.declared.LoadAnswer.TheVariants.{Accepted}
+use Rattle.boards.specs.Clock.{ClockAnswer}
 use Rattle.laws.specs.Calls as boards
 use Rattle.laws.specs.Calls.{LentWrite, load_with}
 use Rattle.laws.specs.Demand3 as demand
@@ -41,16 +40,16 @@ cart_in mode image = cartridge_of (header_of image) (mode_of mode) (length image
 
 -- a history of exported calls is one of calls in Rattle
 module _ {mode : ℕ} {image : List ℕ} where
-  found : (x : History mode image) → verdict image (mode_of mode) (length x.prg) (length x.chr) ≡ Take
+  found : (x : History mode image) → verdict image (mode_of mode) (length x.prg) (length x.chr) ≡ Ok tt
   found x = accepted_verdict image mode x.lent x.prg x.chr 0 x.loaded x.prg' x.chr' x.load_owes refl
 
-  pub accepted : (x : History mode image) → (load_with (mode_of mode) image x.prg x.chr).answer ≡ Accepted
-  unfolding loaded_board loaded_as
-  accepted x = ap (λ (v : Verdict). (loaded_board (loaded_as v (cart_in mode image))).answer) (found x)
+  pub accepted : (x : History mode image) → (load_with (mode_of mode) image x.prg x.chr).answer ≡ Ok tt
+  unfolding loaded_board load_answer board_of loaded_as
+  accepted x = ap (λ (v : Verdict). (load_answer (loaded_board (loaded_as v (cart_in mode image))))) (found x)
 
-  started : (x : History mode image) → (load_with (mode_of mode) image x.prg x.chr).board ≡ start_of (cart_in mode image)
-  unfolding loaded_board loaded_as
-  started x = ap (λ (v : Verdict). (loaded_board (loaded_as v (cart_in mode image))).board) (found x)
+  started : (x : History mode image) → (load_with (mode_of mode) image x.prg x.chr).left ≡ start_of (cart_in mode image)
+  unfolding loaded_board load_answer board_of loaded_as
+  started x = ap (λ (v : Verdict). (board_of (loaded_board (loaded_as v (cart_in mode image))))) (found x)
 
   abbrev in_rattle : History mode image → boards.History (mode_of mode) image
   in_rattle x = record { prg = x.prg; chr = x.chr; accepted = accepted x; calls = x.calls }

@@ -1,5 +1,6 @@
 -- What meets demand 3's hypotheses in Rattle, and is made of bytes, meets those of the exported calls, so the two histories of each example in `laws` are
 -- examples here. Assumes nothing.
+use Rattle.std.specs.Prelude.{Ok}
 use Prim.Native.Nat.{ℕ, ◌<◌}
 use mathlib.Core.Path.{◌≡◌, refl, sym, ap, subst⁻¹, ◌∙◌}
 use mathlib.Core.Bool.{Bool, true, not, ◌&&◌}
@@ -8,7 +9,7 @@ use native.Mathlib.Omega.{arith}
 use borrow.Author.Tests.{ltb-true}
 use lib.Dec.{ltb}
 use lib.ListN.{length, replicate}
-use Rattle.rules.proofs.Bools.{and_left, and_right}
+use Rattle.std.proofs.lemmas.Bool.{and_parts}
 use Rattle.common.specs.Common.{mode_of}
 use Rattle.cartridge.specs.Load.{ram_after}
 use Rattle.cartridge.specs.declared.MapperType.{MapperType}
@@ -17,7 +18,6 @@ use Rattle.boards.specs.Runs.{Call, call}
 use Rattle.boards.specs.declared.Board.{Board}
 use Rattle.boards.specs.declared.Event.{Event}
 use Rattle.boards.specs.declared.Event.TheVariants.{Read, Write, Clock}
-use Rattle.boards.specs.declared.LoadAnswer.TheVariants.{Accepted}
 use Rattle.laws.specs.Calls as boards
 use Rattle.laws.specs.Calls.{LentWrite, load_with, SameCalls}
 use Rattle.laws.specs.Demand3.{ImageOf}
@@ -33,6 +33,7 @@ use Rattle.exports.specs.Numbers.{load_number}
 use Rattle.exports.specs.Bytes.{state_left}
 use Rattle.exports.specs.Calls.{decision, loading}
 use Rattle.exports.proofs.AsBoards.{loads_as}
+use Rattle.boards.specs.Start.{load, load_answer, board_of}
 use Rattle.exported_runs.specs.Holds.{Holds}
 use Rattle.exported_runs.specs.Runs.{state_after, IsByte, WriteBytes}
 use Rattle.exported_runs.specs.Demand3.{LentImage, History, reached, wrote, IsAccepted, Clears, SameBytes, BothCleared, armed, Accepts, Acknowledges, BothArmed, BothAcknowledged, SettlesOnMmc3}
@@ -44,10 +45,10 @@ abbrev room : List ℕ
 room = replicate 40 0
 
 module _ (mode : ℕ) (is-mode : mode < 2) (image : List ℕ) where
-  pub answers_0 : (prg chr : List ℕ) → (load_with (mode_of mode) image prg chr).answer ≡ Accepted → load_number (loading image mode 40 (length prg) (length chr)).answer ≡ 0
+  pub answers_0 : (prg chr : List ℕ) → (load_with (mode_of mode) image prg chr).answer ≡ Ok tt → load_number (load_answer (loading image mode 40 (length prg) (length chr))) ≡ 0
   unfolding load_number
   answers_0 prg chr e =
-      (loads_as image mode room prg chr (load_with (mode_of mode) image prg chr) _ _ (load_number (loading image mode 40 (length prg) (length chr)).answer) _ _ _ is-mode refl
+      (loads_as image mode room prg chr (load image (mode_of mode) (length prg) (length chr)) _ _ (load_number (load_answer (loading image mode 40 (length prg) (length chr)))) _ _ _ is-mode refl
       (record { reply = refl; prg_ram = refl; chr_ram = refl }) (record { reply = refl; state = refl; prg_ram = refl; chr_ram = refl })).reply
       ∙ ap load_number e
 
@@ -58,7 +59,7 @@ module _ (mode : ℕ) (is-mode : mode < 2) (image : List ℕ) where
         lent = room;
         prg = x.prg;
         chr = x.chr;
-        loaded = state_left room 0 (words_of (loading image mode 40 (length x.prg) (length x.chr)).board);
+        loaded = state_left room 0 (words_of (board_of (loading image mode 40 (length x.prg) (length x.chr))));
         prg' = ram_after (decision image mode 40 (length x.prg) (length x.chr)) x.prg;
         chr' = ram_after (decision image mode 40 (length x.prg) (length x.chr)) x.chr;
         load_owes = record { reply = sym (answers_0 x.prg x.chr x.accepted); state = refl; prg_ram = refl; chr_ram = refl };
@@ -115,7 +116,7 @@ all_written (call l e ∷ cs) = written e && all_written cs
 pub write_bytes : (cs : List Call) → all_written cs ≡ true → WriteBytes cs
 unfolding all_written
 write_bytes [] h = tt
-write_bytes (call l e ∷ cs) h = (a_byte e (and_left (written e) (all_written cs) h), write_bytes cs (and_right (written e) (all_written cs) h))
+write_bytes (call l e ∷ cs) h = (a_byte e (and_parts (written e) (all_written cs) h).0, write_bytes cs (and_parts (written e) (all_written cs) h).1)
 
 -- an image, and calls for two boards, by tests that compute
 lent_image : (k : MapperType) (mode : ℕ) (s : List ℕ) → ImageOf k (mode_of mode) s → ltb (length s) 0x10000000000000000 ≡ true → LentImage k mode s

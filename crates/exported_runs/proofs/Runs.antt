@@ -1,5 +1,6 @@
 -- From an accepted load on, the lent state is the bytes of the board that the same calls reach in Rattle; so no call of a run is refused by 10 for its state.
 -- Assumes nothing.
+use Rattle.std.specs.Prelude.{Ok, Err}
 use Prim.Native.Nat.{ℕ, ◌<◌}
 use mathlib.Core.Path.{◌≡◌, refl, sym, ap, ap₂, subst, subst⁻¹, ◌∙◌}
 use mathlib.Core.Bool.{Bool, true, false, cond, ◌&&◌}
@@ -8,7 +9,7 @@ use native.Mathlib.Omega.{arith}
 use borrow.Author.Tests.{eqb-true}
 use lib.Dec.{ltb, eqb}
 use lib.ListN.{length}
-use Rattle.rules.proofs.Bools.{and_left}
+use Rattle.std.proofs.lemmas.Bool.{and_parts}
 use Rattle.common.specs.Common.{mode_of}
 use Rattle.common.specs.declared.Mode.{Mode}
 use Rattle.common.specs.declared.Refusal.TheVariants.{RamNot8K, StateOutOfRange}
@@ -17,10 +18,9 @@ use Rattle.cartridge.specs.Header.{header_of}
 use Rattle.cartridge.specs.Load.{verdict, cartridge_of, loaded_as, rams_fit}
 use Rattle.cartridge.specs.declared.Cartridge.{Cartridge}
 use Rattle.cartridge.specs.declared.Header.{Header}
-use Rattle.cartridge.specs.declared.Verdict.{Verdict}
-use Rattle.cartridge.specs.declared.Verdict.TheVariants.{Take, Refuse}
+use Rattle.cartridge.specs.Refusals.{Verdict}
 use Rattle.boards.specs.Read.{read}
-use Rattle.boards.specs.Start.{start_of, loaded_board}
+use Rattle.boards.specs.Start.{start_of, loaded_board, load_answer, board_of}
 use Rattle.boards.specs.Write as boards
 use Rattle.boards.specs.Runs.{Lent, lent, next}
 use Rattle.boards.specs.declared.Board.{Board}
@@ -73,28 +73,27 @@ module _ (s : List ℕ) (b : Board) (h : Holds s b) where
       record { bytes = z.state; is_in_range = next_in_range b l Clock h.is_in_range; of_its_types = clocked_typed b h.of_its_types }
 
 -- a load that answers 0 has taken the image
-taken : (d : Verdict) (c : Cartridge) → load_number (loaded_board (loaded_as d c)).answer ≡ 0 → d ≡ Take
-unfolding load_number loaded_board loaded_as refused
-taken Take c e = refl
-taken (Refuse why) c e = absurd (omega arith)
+taken : (d : Verdict) (c : Cartridge) → load_number (load_answer (loaded_board (loaded_as d c))) ≡ 0 → d ≡ Ok tt
+unfolding load_number loaded_board load_answer board_of loaded_as refused
+taken d c e = grind arith
 
 -- and found the state's room, and a mode
 record Decided (image : List ℕ) (mode s p c : ℕ) : Type 0 where
   room : s ≡ 40
-  found : verdict image (mode_of mode) p c ≡ Take
+  found : verdict image (mode_of mode) p c ≡ Ok tt
 
-decided : (image : List ℕ) (mode s p c : ℕ) → decision image mode s p c ≡ Take → Decided image mode s p c
+decided : (image : List ℕ) (mode s p c : ℕ) → decision image mode s p c ≡ Ok tt → Decided image mode s p c
 decided image mode s p c e = go (rams_fit p c) (eqb s 40 && ltb mode 2) refl e
   where
-    go : (x y : Bool) → (eqb s 40 && ltb mode 2) ≡ y → cond x (cond y (verdict image (mode_of mode) p c) (Refuse StateOutOfRange)) (Refuse RamNot8K) ≡ Take
+    go : (x y : Bool) → (eqb s 40 && ltb mode 2) ≡ y → cond x (cond y (verdict image (mode_of mode) p c) (Err StateOutOfRange)) (Err RamNot8K) ≡ Ok tt
         → Decided image mode s p c
-    go true true f e = record { room = eqb-true s 40 (and_left (eqb s 40) (ltb mode 2) f); found = e }
-    go true false f e = absurd (let z : ◌≡◌ {A = ℕ} 0 1 = cc in omega arith)
-    go false y f e = absurd (let z : ◌≡◌ {A = ℕ} 0 1 = cc in omega arith)
+    go true true f e = record { room = eqb-true s 40 (and_parts (eqb s 40) (ltb mode 2) f).0; found = e }
+    go true false f e = cc
+    go false y f e = cc
 
 -- so an accepted load has taken the image in that mode
 pub accepted_verdict : (image : List ℕ) (mode : ℕ) (s prg chr : List ℕ) (r : ℕ) (s' prg' chr' : List ℕ) → LoadOwes image mode s prg chr r s' prg' chr' → r ≡ 0
-    → verdict image (mode_of mode) (length prg) (length chr) ≡ Take
+    → verdict image (mode_of mode) (length prg) (length chr) ≡ Ok tt
 accepted_verdict image mode s prg chr r s' prg' chr' o z =
     (decided image mode (length s) (length prg) (length chr)
     (taken (decision image mode (length s) (length prg) (length chr)) (cartridge_of (header_of image) (mode_of mode) (length image)) (sym o.reply ∙ z))
@@ -107,14 +106,14 @@ length_of h m n l = l
 -- after an accepted load: what is lent is the start of the board that the image asks for
 pub after_load : (image : List ℕ) (mode : ℕ) (s prg chr : List ℕ) (r : ℕ) (s' prg' chr' : List ℕ) → AreBytes image → length image < 0x10000000000000000
     → LoadOwes image mode s prg chr r s' prg' chr' → r ≡ 0 → Holds s' (start_of (cartridge_of (header_of image) (mode_of mode) (length image)))
-unfolding state_left loaded_board loaded_as load_number
+unfolding state_left loaded_board load_answer board_of loaded_as load_number
 after_load image mode s prg chr r s' prg' chr' b l o z =
     let c = cartridge_of (header_of image) (mode_of mode) (length image) in
     let d = decision image mode (length s) (length prg) (length chr) in
-    let e : d ≡ Take = taken d c (sym o.reply ∙ z) in
+    let e : d ≡ Ok tt = taken d c (sym o.reply ∙ z) in
     let f = decided image mode (length s) (length prg) (length chr) e in
     record {
-      bytes = o.state ∙ ap₂ (λ (n : ℕ) (x : Verdict). state_left s n (words_of (loaded_board (loaded_as x c)).board)) z e
+      bytes = o.state ∙ ap₂ (λ (n : ℕ) (x : Verdict). state_left s n (words_of (board_of (loaded_board (loaded_as x c))))) z e
           ∙ ap (λ (n : ℕ). cond (eqb n 40) (bytes_of (words_of (start_of c))) s) f.room;
       is_in_range = load_in_range image (mode_of mode) (length prg) (length chr) b f.found;
       of_its_types = start_typed c (length_of (header_of image) (mode_of mode) (length image) l);

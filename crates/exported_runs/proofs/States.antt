@@ -1,13 +1,10 @@
 -- After a list of exported calls the lent state is the bytes of the board after the same calls, and the numbers are those of its answers: each call does what
 -- the board's own call does, and leaves a board in range. Assumes nothing.
-use Prim.Native.Nat.{ℕ, ◌+◌}
+use Prim.Native.Nat.{ℕ}
 use mathlib.Core.Path.{◌≡◌, refl, sym, ap, ap₂, subst, ◌∙◌}
 use mathlib.Core.Bool.{Bool, true, false, not}
 use mathlib.Core.List.{List, [], ◌∷◌, map}
 use native.Mathlib.Omega.{arith}
-use borrow.Author.Tests.{le-leb}
-use Rattle.common.specs.Answers.{refusal_number}
-use Rattle.common.specs.declared.Mirroring.TheVariants.{Horizontal, Vertical, SingleScreenUpper, SingleScreenLower}
 use Rattle.places.specs.Places.{stored_prg, stored_chr}
 use Rattle.boards.specs.Write as boards
 use Rattle.boards.specs.Clock.{clock}
@@ -16,8 +13,7 @@ use Rattle.boards.specs.declared.Board.{Board}
 use Rattle.boards.specs.declared.Event.{Event}
 use Rattle.boards.specs.declared.Event.TheVariants.{Read, Write, Clock}
 use Rattle.boards.specs.declared.Answer.TheVariants.{Write as toWrite}
-use Rattle.boards.specs.declared.WriteAnswer.{WriteAnswer}
-use Rattle.boards.specs.declared.WriteAnswer.TheVariants.{Quiet, Notice, Refused as NotWritten}
+use Rattle.boards.specs.Write.{WriteAnswer}
 use Rattle.laws.specs.Loads.{accepts}
 use Rattle.laws.specs.PLines.{answer_number}
 use Rattle.laws.specs.SettlesMmc3.{irq_answers}
@@ -108,12 +104,7 @@ clocks_of {s} {b} h (call l Clock ∷ cs) v =
 -- a write is accepted exactly when its number is no refusal
 told : (r : WriteAnswer) → is_refused (write_number r) ≡ is_refusal (toWrite r)
 unfolding write_number refused
-told Quiet = refl
-told (Notice Horizontal) = refl
-told (Notice Vertical) = refl
-told (Notice SingleScreenUpper) = refl
-told (Notice SingleScreenLower) = refl
-told (NotWritten why) = le-leb 256 (256 + refusal_number why) (omega arith)
+told r = grind arith
 
 pub refused_of : {s : List ℕ} {b : Board} → Holds s b → (l : Lent) (a v : ℕ) → is_refused (number s l (Write a v)) ≡ not (accepts b l a)
 unfolding answer
@@ -123,8 +114,7 @@ refused_of {s} {b} h l a v =
     ∙ accepted_is_not_refused b l a v
 
 not_not : (x : Bool) → not x ≡ false → x ≡ true
-not_not true e = refl
-not_not false e = sym e
+not_not x e = grind arith
 
 pub accepted_of : {s : List ℕ} {b : Board} → Holds s b → (l : Lent) (a v : ℕ) → is_refused (number s l (Write a v)) ≡ false → accepts b l a ≡ true
 accepted_of {s} {b} h l a v n = not_not (accepts b l a) (sym (refused_of h l a v) ∙ n)

@@ -1,4 +1,5 @@
 -- The numbers of a board keep the widths of their types: the start's, and those after any write of a byte and any clock. Assumes nothing.
+use Rattle.std.specs.Prelude.{Ok, Err}
 use Prim.Native.Nat.{ℕ, zero, suc, ◌-◌, ◌<◌}
 use mathlib.Core.List.{List, [], ◌∷◌}
 use native.Mathlib.Omega.{arith}
@@ -12,14 +13,13 @@ use Rattle.cartridge.specs.Mappers.{is_mapper}
 use Rattle.cartridge.specs.declared.Cartridge.{Cartridge}
 use Rattle.cartridge.specs.declared.MapperType.{MapperType}
 use Rattle.cartridge.specs.declared.MapperType.TheVariants.{Nrom, Mmc1, Uxrom, Cnrom, Mmc3}
-use Rattle.places.specs.declared.Landing.{Landing}
-use Rattle.places.specs.declared.Landing.TheVariants.{At, Refused}
+use Rattle.places.specs.Places.{Landing}
 use Rattle.uxrom.specs.Uxrom as uxrom
 use Rattle.uxrom.specs.declared.Uxrom as uxrom-type
 use Rattle.mmc3.specs.Clock.{house_clock, next_counter, board_clock, clock_in, with_irq, clocked}
 use Rattle.mmc3.specs.Range as mmc3
 use Rattle.mmc3.specs.Write.{is_even, move_of, data_bits, applied, written}
-use Rattle.mmc3.specs.declared.Clocked.{Clocked}
+use Rattle.mmc3.specs.Clock.{Clocked}
 use Rattle.mmc3.specs.declared.Irq.{Irq}
 use Rattle.mmc3.specs.declared.Mmc3 as mmc3-type
 use Rattle.mmc3.specs.declared.Move.{Move}
@@ -30,8 +30,7 @@ use Rattle.boards.specs.Write.{turned, accepted_write, written_as}
 use Rattle.boards.specs.Clock as boards
 use Rattle.boards.specs.declared.Board.{Board}
 use Rattle.boards.specs.declared.Registers.{Registers}
-use Rattle.boards.specs.declared.Ticked.{Ticked}
-use Rattle.boards.specs.declared.Clocked as boards-clocked
+use Rattle.boards.specs.Registers.{Ticked}
 use Rattle.states.specs.Kept.{OfItsTypes}
 
 abbrev Byte : ℕ → Type 0
@@ -60,7 +59,7 @@ unfolding data_bits
 kept_byte n v h = either Byte (ltb n 2) (omega arith) (either Byte (leb 6 n) (omega arith) h)
 
 -- only a data write and the latch's put a byte into MMC3
-written_typed : (mode : Mode) (m : mmc3-type.Mmc3) → TypedMmc3 m → (v a : ℕ) → Byte v → TypedMmc3 (written mode m v a).mmc3
+written_typed : (mode : Mode) (m : mmc3-type.Mmc3) → TypedMmc3 m → (v a : ℕ) → Byte v → TypedMmc3 (written mode m v a).left
 unfolding written move_of applied with_irq
 written_typed mode m t v a h =
     let P : Move → Type 0 = λ w. TypedMmc3 (applied mode w m) in
@@ -74,15 +73,15 @@ less : (n : ℕ) → Byte n → Byte (n - 1)
 less n h = omega arith
 
 -- a clock keeps the latch and gives the counter a value of the same width
-clock_typed : (mode : Mode) (i : Irq) → TypedIrq i → TypedIrq (clock_in mode i).irq
+clock_typed : (mode : Mode) (i : Irq) → TypedIrq i → TypedIrq (clock_in mode i).left
 unfolding clock_in house_clock board_clock next_counter
 clock_typed House i t =
-    let P : Clocked → Type 0 = λ c. TypedIrq c.irq in
+    let P : Clocked → Type 0 = λ c. TypedIrq c.left in
     either P i.reload (t.0, t.0) (either P (eqb i.counter 0) (t.0, t.0) (t.0, less i.counter t.1))
 clock_typed OnBoard i t =
     (t.0, either Byte i.reload t.0 (either Byte (eqb i.counter 0) t.0 (less i.counter t.1)))
 
-moved_typed : (k : MapperType) (mode : Mode) (r : Registers) (v a : ℕ) → Byte v → Typed r → Typed (moved k mode r v a).registers
+moved_typed : (k : MapperType) (mode : Mode) (r : Registers) (v a : ℕ) → Byte v → Typed r → Typed (moved k mode r v a).left
 unfolding moved uxrom.written
 moved_typed Nrom mode r v a h t = t
 moved_typed Mmc1 mode r v a h t = t
@@ -90,10 +89,10 @@ moved_typed Uxrom mode r v a h t = (either (λ (u : uxrom-type.Uxrom). Byte u.ba
 moved_typed Cnrom mode r v a h t = t
 moved_typed Mmc3 mode r v a h t = (t.0, written_typed mode r.mmc3 t.1 v a h)
 
-ticked_typed : (k : MapperType) (mode : Mode) (r : Registers) → Typed r → Typed (ticked k mode r).registers
+ticked_typed : (k : MapperType) (mode : Mode) (r : Registers) → Typed r → Typed (ticked k mode r).left
 unfolding ticked clocked with_irq
 ticked_typed k mode r t =
-    either (λ (x : Ticked). Typed x.registers) (is_mapper k Mmc3) (t.0, (t.1.0, clock_typed mode r.mmc3.irq t.1.1)) t
+    either (λ (x : Ticked). Typed x.left) (is_mapper k Mmc3) (t.0, (t.1.0, clock_typed mode r.mmc3.irq t.1.1)) t
 
 -- the registers of a board, and the length that no call changes
 typed : (b : Board) → OfItsTypes b → Typed b.registers
@@ -108,20 +107,20 @@ unfolding start_of start mmc3.start
 start_typed c h = search (arith, h)
 
 module _ (b : Board) (t : OfItsTypes b) where
-  accepted_typed : (v a : ℕ) → Byte v → OfItsTypes (accepted_write b v a).board
+  accepted_typed : (v a : ℕ) → Byte v → OfItsTypes (accepted_write b v a).left
   unfolding accepted_write turned
   accepted_typed v a h =
-      of_its_types (accepted_write b v a).board t.image (moved_typed b.cart.mapper b.cart.mode b.registers v a h (typed b t))
+      of_its_types (accepted_write b v a).left t.image (moved_typed b.cart.mapper b.cart.mode b.registers v a h (typed b t))
 
   -- the board after a write of a byte
-  pub write_typed : (p : Landing) (v a : ℕ) → Byte v → OfItsTypes (written_as b p v a).board
+  pub write_typed : (p : Landing) (v a : ℕ) → Byte v → OfItsTypes (written_as b p v a).left
   unfolding written_as
-  write_typed (Refused why) v a h = t
-  write_typed (At p) v a h = accepted_typed v a h
+  write_typed (Err why) v a h = t
+  write_typed (Ok p) v a h = accepted_typed v a h
 
   -- and after a clock
-  pub clocked_typed : OfItsTypes (boards.clock b).board
+  pub clocked_typed : OfItsTypes (boards.clock b).left
   unfolding boards.clock boards.accepted_clock
   clocked_typed =
-      either (λ (c : boards-clocked.Clocked). OfItsTypes c.board) (in_range b)
-      (of_its_types (boards.accepted_clock b).board t.image (ticked_typed b.cart.mapper b.cart.mode b.registers (typed b t))) t
+      either (λ (c : boards.Clocked). OfItsTypes c.left) (in_range b)
+      (of_its_types (boards.accepted_clock b).left t.image (ticked_typed b.cart.mapper b.cart.mode b.registers (typed b t))) t

@@ -4,8 +4,8 @@ use Rattle.places.specs.Places.{stored_prg, stored_chr}
 use Rattle.boards.specs.Runs.{Lent, lent, Call, call}
 use Rattle.boards.specs.Write.{written_as}
 use Rattle.boards.specs.Clock.{clock_if}
-use Rattle.boards.specs.declared.Written.{Written}
-use Rattle.boards.specs.declared.Clocked.{Clocked}
+use Rattle.boards.specs.Write.{Written}
+use Rattle.boards.specs.Clock.{Clocked}
 use Rattle.boards.specs.declared.Event.{Event}
 use Rattle.boards.specs.declared.Event.TheVariants.{Read, Write, Clock}
 use Rattle.states.specs.Words.{words_of}
@@ -30,8 +30,8 @@ number s l Clock = clock_number (clocked s).answer
 -- the state as an exported call leaves it; a read has it to look at only
 unfoldable pub next_state : List ℕ → Lent → Event → List ℕ
 next_state s l (Read a) = s
-next_state s l (Write a v) = state_left s (write_number (written s l a v).answer) (words_of (written s l a v).board)
-next_state s l Clock = state_left s (clock_number (clocked s).answer) (words_of (clocked s).board)
+next_state s l (Write a v) = state_left s (write_number (written s l a v).answer) (words_of (written s l a v).left)
+next_state s l Clock = state_left s (clock_number (clocked s).answer) (words_of (clocked s).left)
 
 -- the state after a list of calls, whatever is lent to each
 unfoldable pub state_after : List ℕ → List Call → List ℕ

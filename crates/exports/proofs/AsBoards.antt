@@ -1,4 +1,6 @@
 -- The exported calls on the bytes of a board in range do what the board's own calls do. Assumes nothing.
+use native.Mathlib.Omega.{arith}
+use Rattle.std.specs.Prelude.{Option, Some, None, Ok, Err}
 use Prim.Native.Nat.{ℕ, ◌<◌}
 use mathlib.Core.Path.{◌≡◌, refl, sym, ap, ap₂, ◌∙◌}
 use mathlib.Core.Bool.{Bool, true, false, cond, ◌&&◌}
@@ -6,28 +8,25 @@ use mathlib.Core.List.{List}
 use borrow.Author.Tests.{lt-ltb, eq-eqb}
 use lib.Dec.{ltb, eqb}
 use lib.ListN.{length}
-use Rattle.rules.proofs.Bools.{and_both, either}
+use Rattle.std.proofs.lemmas.Bool.{and_from}
+use Rattle.rules.proofs.Bools.{either}
 use Rattle.common.specs.Common.{mode_of}
 use Rattle.common.specs.Answers.{mirroring_letter, same}
 use Rattle.common.specs.declared.Mirroring.{Mirroring}
-use Rattle.common.specs.declared.Mirroring.TheVariants.{Horizontal, Vertical, SingleScreenUpper, SingleScreenLower}
-use Rattle.common.specs.declared.Mirrors.{Mirrors}
-use Rattle.common.specs.declared.Mirrors.TheVariants.{AsBefore, As}
 use Rattle.cartridge.specs.Header.{header_of}
 use Rattle.cartridge.specs.Load.{verdict, cartridge_of, loaded_as, ram_after, rams_fit}
-use Rattle.cartridge.specs.declared.Verdict.{Verdict}
+use Rattle.cartridge.specs.Refusals.{Verdict}
 use Rattle.places.specs.Places.{stored_prg, stored_chr}
-use Rattle.places.specs.declared.Landing.{Landing}
-use Rattle.places.specs.declared.Landing.TheVariants.{At, Refused}
+use Rattle.places.specs.Places.{Landing}
 use Rattle.boards.specs.Range.{in_range, is_loaded}
 use Rattle.boards.specs.Read.{read_if, read}
 use Rattle.boards.specs.Write as boards
 use Rattle.boards.specs.Clock.{yes_no, accepted_clock, clock_if, clock}
 use Rattle.boards.specs.Start as start
 use Rattle.boards.specs.declared.Board.{Board}
-use Rattle.boards.specs.declared.Written.{Written}
-use Rattle.boards.specs.declared.Clocked.{Clocked}
-use Rattle.boards.specs.declared.Loaded.{Loaded}
+use Rattle.boards.specs.Write.{Written}
+use Rattle.boards.specs.Clock.{Clocked}
+use Rattle.boards.specs.Start.{Loaded}
 use Rattle.states.specs.Words.{words_of, digits_of}
 use Rattle.states.specs.Kept.{OfItsTypes}
 use Rattle.states.specs.declared.Words.{Words}
@@ -40,25 +39,20 @@ use Rattle.exports.proofs.RoundTrip.{encoded_words, there_and_back, is_a_state}
 
 -- an answer that is no refusal is below 256
 letter_small : (m : Mirroring) → ltb (mirroring_letter m) 256 ≡ true
-letter_small Horizontal = refl
-letter_small Vertical = refl
-letter_small SingleScreenUpper = refl
-letter_small SingleScreenLower = refl
+letter_small m = grind arith
 
 unless_small : (t : Bool) (m : Mirroring) → ltb (write_number (boards.notice_unless t m)) 256 ≡ true
 unfolding boards.notice_unless write_number
-unless_small true m = refl
-unless_small false m = letter_small m
+unless_small t m = grind arith
 
-pub notice_small : (old : Mirroring) (m : Mirrors) → ltb (write_number (boards.notice old m)) 256 ≡ true
+pub notice_small : (old : Mirroring) (m : Option Mirroring) → ltb (write_number (boards.notice old m)) 256 ≡ true
 unfolding boards.notice write_number
-notice_small old AsBefore = refl
-notice_small old (As m) = unless_small (same old m) m
+notice_small old None = refl
+notice_small old (Some m) = unless_small (same old m) m
 
 yes_no_small : (x : Bool) → ltb (clock_number (yes_no x)) 256 ≡ true
 unfolding clock_number yes_no
-yes_no_small true = refl
-yes_no_small false = refl
+yes_no_small x = grind arith
 
 taken : {A : Type 0} {t : Bool} (x y : A) → t ≡ true → cond t x y ≡ x
 taken x y e = ap (λ b. cond b x y) e
@@ -70,16 +64,16 @@ module _ (b : Board) where
   kept_next n w l = taken (bytes_of w) (encoded b) l
 
   kept_accepted : (v a : ℕ)
-      → state_left (encoded b) (write_number (boards.accepted_write b v a).answer) (words_of (boards.accepted_write b v a).board) ≡ encoded (boards.accepted_write b v a).board
+      → state_left (encoded b) (write_number (boards.accepted_write b v a).answer) (words_of (boards.accepted_write b v a).left) ≡ encoded (boards.accepted_write b v a).left
   unfolding boards.accepted_write boards.turned
   kept_accepted v a = kept_next _ _ (notice_small _ _)
 
   -- so after a write, also after a refusal, which leaves the board
   kept_written : (p : Landing) (v a : ℕ)
-      → state_left (encoded b) (write_number (boards.written_as b p v a).answer) (words_of (boards.written_as b p v a).board) ≡ encoded (boards.written_as b p v a).board
+      → state_left (encoded b) (write_number (boards.written_as b p v a).answer) (words_of (boards.written_as b p v a).left) ≡ encoded (boards.written_as b p v a).left
   unfolding state_left bytes_of boards.written_as
-  kept_written (Refused why) v a = either (λ (s : List ℕ). s ≡ encoded b) (ltb (write_number (boards.written_as b (Refused why) v a).answer) 256) refl refl
-  kept_written (At p) v a = kept_accepted v a
+  kept_written (Err why) v a = either (λ (s : List ℕ). s ≡ encoded b) (ltb (write_number (boards.written_as b (Err why) v a).answer) 256) refl refl
+  kept_written (Ok p) v a = kept_accepted v a
 
 module _ (b : Board) (t : OfItsTypes b) (h : in_range b ≡ true) where
   -- the bytes are a state for an image exactly where the board is loaded with it
@@ -108,8 +102,8 @@ module _ (b : Board) (t : OfItsTypes b) (h : in_range b ≡ true) where
       let y : r ≡ write_number (boards.written_as b p v a).answer = e.reply ∙ ap (λ (x : Written). write_number x.answer) z in
       record {
         reply = y ∙ ap (λ (x : Written). write_number x.answer) (sym o.reply);
-        state = e.state ∙ ap₂ (λ (n : ℕ) (x : Written). state_left (encoded b) n (words_of x.board)) y z ∙ kept_written b p v a
-            ∙ ap (λ (x : Written). encoded x.board) (sym o.reply);
+        state = e.state ∙ ap₂ (λ (n : ℕ) (x : Written). state_left (encoded b) n (words_of x.left)) y z ∙ kept_written b p v a
+            ∙ ap (λ (x : Written). encoded x.left) (sym o.reply);
         prg_ram = e.prg_ram ∙ ap (λ (q : Landing). stored_prg q v prg) (landed image prg chr a) ∙ sym o.prg_ram;
         chr_ram = e.chr_ram ∙ ap (λ (q : Landing). stored_chr q v chr) (landed image prg chr a) ∙ sym o.chr_ram;
       }
@@ -124,14 +118,14 @@ module _ (b : Board) (t : OfItsTypes b) (h : in_range b ≡ true) where
       let y : r ≡ clock_number (accepted_clock b).answer = e.reply ∙ ap (λ (x : Clocked). clock_number x.answer) (z ∙ c) in
       record {
         reply = y ∙ ap (λ (x : Clocked). clock_number x.answer) (sym c);
-        state = e.state ∙ ap₂ (λ (n : ℕ) (x : Clocked). state_left (encoded b) n (words_of x.board)) y (z ∙ c) ∙ kept_next b _ _ (yes_no_small _)
-            ∙ ap (λ (x : Clocked). encoded x.board) (sym c);
+        state = e.state ∙ ap₂ (λ (n : ℕ) (x : Clocked). state_left (encoded b) n (words_of x.left)) y (z ∙ c) ∙ kept_next b _ _ (yes_no_small _)
+            ∙ ap (λ (x : Clocked). encoded x.left) (sym c);
       }
 
   -- and the digits, into forty numbers
   pub shows_as : (d : List ℕ) (r : ℕ) (d' : List ℕ) → length d ≡ 40 → DigitsOwes (encoded b) d r d' → ShowsAs b r d'
   shows_as d r d' n e =
-      let s = and_both (is_state (encoded b)) (eqb (length d) 40) (is_a_state b t h) (eq-eqb (length d) 40 n) in
+      let s = and_from (is_state (encoded b)) (eqb (length d) 40) (is_a_state b t h) (eq-eqb (length d) 40 n) in
       record {
         reply = e.reply ∙ taken _ _ s;
         digits = e.digits ∙ taken _ _ s ∙ ap digits_of (encoded_words b t h) ∙ digits_there b t h;
@@ -153,10 +147,10 @@ loads_as image mode s prg chr l prg'' chr'' r s' prg' chr' m n o e =
     = ap (λ (x : ℕ). decision image mode x (length prg) (length chr)) n ∙ decided image mode (length prg) (length chr) m in
     let z : loading image mode (length s) (length prg) (length chr) ≡ l
     = ap (λ (x : Verdict). start.loaded_board (loaded_as x (cartridge_of (header_of image) (mode_of mode) (length image)))) d ∙ sym o.reply in
-    let y : r ≡ load_number l.answer = e.reply ∙ ap (λ (x : Loaded). load_number x.answer) z in
+    let y : r ≡ load_number (start.load_answer l) = e.reply ∙ ap (λ (x : Loaded). load_number (start.load_answer x)) z in
     record {
       reply = y;
-      state = e.state ∙ ap₂ (λ (n : ℕ) (x : Loaded). state_left s n (words_of x.board)) y z;
+      state = e.state ∙ ap₂ (λ (n : ℕ) (x : Loaded). state_left s n (words_of (start.board_of x))) y z;
       prg_ram = e.prg_ram ∙ ap (λ (x : Verdict). ram_after x prg) d ∙ sym o.prg_ram;
       chr_ram = e.chr_ram ∙ ap (λ (x : Verdict). ram_after x chr) d ∙ sym o.chr_ram;
     }

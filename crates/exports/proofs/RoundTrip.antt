@@ -10,7 +10,7 @@ use lib.ListN.{length}
 use Rattle.rules.specs.Rows.{bytes}
 use Rattle.rules.specs.Flat.{flat_digits}
 use Rattle.rules.proofs.Flat.{flat_there, flat_back}
-use Rattle.rules.proofs.Bools.{and_left}
+use Rattle.std.proofs.lemmas.Bool.{and_parts}
 use Rattle.common.specs.declared.Refusal.TheVariants.{StateOutOfRange}
 use Rattle.memory.specs.Memory.{byte, AreBytes}
 use Rattle.cartridge.specs.Load.{bad_prg, could_load}
@@ -108,8 +108,8 @@ pub digits_tell : (s s' d e d' : List ℕ) → AreBytes s → AreBytes s' → Di
 digits_tell s s' d e d' b b' o p =
     let h = shown s d (sym o.reply) in
     let h' = shown s' e (sym p.reply) in
-    let k = and_left (is_state s) (eqb (length d) 40) h in
-    let k' = and_left (is_state s') (eqb (length e) 40) h' in
+    let k = (and_parts (is_state s) (eqb (length d) 40) h).0 in
+    let k' = (and_parts (is_state s') (eqb (length e) 40) h').0 in
     let same : digits_of (words_in s) ≡ digits_of (words_in s') =
     ap (λ (t : Bool). cond t (digits_of (words_in s)) d) (sym h) ∙ sym o.digits ∙ p.digits ∙ ap (λ (t : Bool). cond t (digits_of (words_in s')) e) h' in
     one_state_each s s' b b' k k' (ap states-specs.board_in (states.digits_tell (words_in s) (words_in s') k k' same))

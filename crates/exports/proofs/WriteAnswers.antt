@@ -1,4 +1,5 @@
 -- What a write tells of the pages stands above its answer: every answer is below 0x10000. Assumes nothing.
+use Rattle.std.specs.Prelude.{Some, None, Ok, Err}
 use Prim.Native.Nat.{ℕ, ◌+◌, ◌*◌, ◌/◌, ◌%◌, ◌<◌}
 use mathlib.Core.Path.{◌≡◌}
 use mathlib.Core.Bool.{Bool, true, false, cond}
@@ -6,8 +7,7 @@ use native.Mathlib.Omega.{arith}
 use Rattle.common.specs.Answers.{mirroring_letter}
 use Rattle.common.specs.declared.Mirroring.{Mirroring}
 use Rattle.common.specs.declared.Mirroring.TheVariants.{Horizontal, Vertical, SingleScreenUpper, SingleScreenLower}
-use Rattle.boards.specs.declared.WriteAnswer.{WriteAnswer}
-use Rattle.boards.specs.declared.WriteAnswer.TheVariants.{Quiet, Notice, Refused}
+use Rattle.boards.specs.Write.{WriteAnswer}
 use Rattle.pages.specs.declared.Parts.{Parts}
 use Rattle.pages.proofs.Refusals.{refusals_few}
 use Rattle.exports.specs.Numbers.{refused, write_number, moved_number}
@@ -20,9 +20,9 @@ small_letter SingleScreenLower = omega arith
 
 small : (w : WriteAnswer) → write_number w < 0x10000
 unfolding write_number refused
-small Quiet = omega arith
-small (Notice m) = omega (arith, small_letter m)
-small (Refused why) = omega (arith, refusals_few why)
+small (Ok None) = omega arith
+small (Ok (Some m)) = omega (arith, small_letter m)
+small (Err why) = omega (arith, refusals_few why)
 
 -- the answer that a caller takes apart: the write's below, a bit for each part above
 pub record Apart (r n : ℕ) (p : Parts) : Type 0 where

@@ -1,17 +1,15 @@
 -- What each exported call owes its caller: docs/ABI.md, "Answers and refusals". Load, read, write and clock are the board's own, on the board that the bytes hold.
-use Rattle.std.specs.Prelude.{ℕ, ◌+◌, ◌≡◌, Bool, cond, ◌&&◌, List, ltb, eqb, length}
+use Rattle.std.specs.Prelude.{ℕ, ◌+◌, ◌≡◌, Bool, cond, ◌&&◌, List, ltb, eqb, length, Err}
 use Rattle.common.specs.Common.{mode_of}
 use Rattle.common.specs.Answers.{no}
 use Rattle.cartridge.specs.Header.{header_of, header_read}
 use Rattle.cartridge.specs.Load.{verdict, cartridge_of, loaded_as, ram_after, rams_fit}
-use Rattle.cartridge.specs.declared.Verdict as decided
-use Rattle.places.specs.Places.{stored_prg, stored_chr}
-use Rattle.places.specs.declared.Landing.{Landing}
-use Rattle.boards.specs.Start.{loaded_board}
+use Rattle.cartridge.specs.Refusals.{Verdict}
+use Rattle.places.specs.Places.{Landing, stored_prg, stored_chr}
+use Rattle.boards.specs.Start.{Loaded, loaded_board, board_of, load_answer}
 use Rattle.boards.specs.Read.{read_if}
 use Rattle.boards.specs.Write.{landing_if, written_as}
 use Rattle.boards.specs.Clock.{clock_if}
-use Rattle.boards.specs.declared.Loaded.{Loaded}
 use Rattle.pages.specs.Pages.{read_page, write_page, numbers, is_told}
 use Rattle.pages.specs.Parts.{parts_moved}
 use Rattle.pages.specs.declared.Parts.{Parts}
@@ -20,21 +18,21 @@ use Rattle.exports.specs.Numbers.{refused, read_number, write_number, clock_numb
 use Rattle.exports.specs.Bytes.{words_in, board_in, is_state, is_state_for, state_left}
 
 -- load: "9, 10 (`state` is not 40 bytes, or `mode` is neither 0 house nor 1 board), 3, 4, 5, 16, 6, 7, 8"
-abbrev pub decision : List ℕ → ℕ → ℕ → ℕ → ℕ → decided.Verdict
+abbrev pub decision : List ℕ → ℕ → ℕ → ℕ → ℕ → Verdict
 decision image mode s prg chr =
     cond (rams_fit prg chr)
-    (cond (eqb s 40 && ltb mode 2) (verdict image (mode_of mode) prg chr) (decided.TheVariants.Refuse (no 10)))
-    (decided.TheVariants.Refuse (no 9))
+    (cond (eqb s 40 && ltb mode 2) (verdict image (mode_of mode) prg chr) (Err (no 10)))
+    (Err (no 9))
 
--- the board that the load gives, and its answer
+-- the board that the load gives, or its refusal
 abbrev pub loading : List ℕ → ℕ → ℕ → ℕ → ℕ → Loaded
 loading image mode s prg chr =
     loaded_board (loaded_as (decision image mode s prg chr) (cartridge_of (header_of image) (mode_of mode) (length image)))
 
 -- what a load owes: the answer, the state and both RAMs
 pub record LoadOwes (image : List ℕ) (mode : ℕ) (s prg chr : List ℕ) (r : ℕ) (s' prg' chr' : List ℕ) : Type 0 where
-  pub reply : r ≡ load_number (loading image mode (length s) (length prg) (length chr)).answer
-  pub state : s' ≡ state_left s r (words_of (loading image mode (length s) (length prg) (length chr)).board)
+  pub reply : r ≡ load_number (load_answer (loading image mode (length s) (length prg) (length chr)))
+  pub state : s' ≡ state_left s r (words_of (board_of (loading image mode (length s) (length prg) (length chr))))
   pub prg_ram : prg' ≡ ram_after (decision image mode (length s) (length prg) (length chr)) prg
   pub chr_ram : chr' ≡ ram_after (decision image mode (length s) (length prg) (length chr)) chr
 
@@ -49,14 +47,14 @@ writing s image prg chr a = landing_if (is_state_for s (length image)) (board_in
 -- what a write owes: the answer, the state and both RAMs
 pub record WriteOwes (s image prg chr : List ℕ) (a v r : ℕ) (s' prg' chr' : List ℕ) : Type 0 where
   pub reply : r ≡ write_number (written_as (board_in s) (writing s image prg chr a) v a).answer
-  pub state : s' ≡ state_left s r (words_of (written_as (board_in s) (writing s image prg chr a) v a).board)
+  pub state : s' ≡ state_left s r (words_of (written_as (board_in s) (writing s image prg chr a) v a).left)
   pub prg_ram : prg' ≡ stored_prg (writing s image prg chr a) v prg
   pub chr_ram : chr' ≡ stored_chr (writing s image prg chr a) v chr
 
 -- the pages that a write may have moved: those whose registers it left with another value
 abbrev pub moved_pages : List ℕ → List ℕ → List ℕ → List ℕ → ℕ → ℕ → Parts
 moved_pages s image prg chr a v =
-    parts_moved (board_in s).cart.mapper (board_in s).registers (written_as (board_in s) (writing s image prg chr a) v a).board.registers
+    parts_moved (board_in s).cart.mapper (board_in s).registers (written_as (board_in s) (writing s image prg chr a) v a).left.registers
 
 -- what the write that tells them owes: the answer of the write with them above it; the state and both RAMs as the write leaves them
 pub record WriteMovedOwes (s image prg chr : List ℕ) (a v r : ℕ) (s' prg' chr' : List ℕ) : Type 0 where
@@ -66,7 +64,7 @@ pub record WriteMovedOwes (s image prg chr : List ℕ) (a v r : ℕ) (s' prg' ch
 -- what a clock owes: the answer and the state
 pub record ClockOwes (s : List ℕ) (r : ℕ) (s' : List ℕ) : Type 0 where
   pub reply : r ≡ clock_number (clock_if (is_state s) (board_in s)).answer
-  pub state : s' ≡ state_left s r (words_of (clock_if (is_state s) (board_in s)).board)
+  pub state : s' ≡ state_left s r (words_of (clock_if (is_state s) (board_in s)).left)
 
 -- the digits are shown: no 10 is due, since a board could have the state and there is room for 40 numbers
 abbrev pub is_shown : List ℕ → List ℕ → Bool

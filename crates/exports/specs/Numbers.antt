@@ -1,11 +1,9 @@
 -- The answers as numbers: docs/ABI.md, "Answers and refusals". Those of the boards' calls are the boards' own.
-use Rattle.std.specs.Prelude.{ℕ, ◌+◌, cond, List, [], ◌∷◌}
+use Rattle.std.specs.Prelude.{ℕ, ◌+◌, cond, List, [], ◌∷◌, Ok, Err}
 use Rattle.cartridge.specs.declared.Header.{Header}
-use Rattle.cartridge.specs.declared.HeaderAnswer.{HeaderAnswer}
-use Rattle.cartridge.specs.declared.HeaderAnswer.TheVariants.{Read, Refused}
+use Rattle.cartridge.specs.Header.{HeaderAnswer}
 use Rattle.pages.specs.declared.Parts.{Parts}
-use Rattle.pages.specs.declared.PagesAnswer.{PagesAnswer}
-use Rattle.pages.specs.declared.PagesAnswer.TheVariants.{Told, Refused as NotTold}
+use Rattle.pages.specs.Pages.{PagesAnswer}
 unfoldable pub use Rattle.boards.specs.Numbers.{refused, header_number, read_number, write_number, clock_number, load_number}
 
 -- above a write's answer: 0x10000 where pages 0 to 7 may have moved, 0x20000 where pages 32 to 63 may, 0x40000 where pages 24 to 31 may
@@ -14,8 +12,8 @@ moved_number p = cond p.chr 0x10000 0 + cond p.prg 0x20000 0 + cond p.ram 0x4000
 
 -- the pages: 0
 unfoldable pub pages_number : PagesAnswer → ℕ
-pages_number Told = 0
-pages_number (NotTold why) = refused why
+pages_number (Ok tt) = 0
+pages_number (Err why) = refused why
 
 -- "The header reader answers bytes 4 to 15 as they stand"
 unfoldable pub fields_of : Header → List ℕ
@@ -27,8 +25,8 @@ fields_of h =
 
 -- into the lent fields; a refusal leaves them
 unfoldable pub fields_after : HeaderAnswer → List ℕ → List ℕ
-fields_after (Read h) f = fields_of h
-fields_after (Refused why) f = f
+fields_after (Ok h) f = fields_of h
+fields_after (Err why) f = f
 
 -- "The version of the exported calls is 5": it grows where a call is added, or a call, an answer or what a caller owes becomes another
 abbrev pub version : ℕ

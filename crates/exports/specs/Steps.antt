@@ -2,7 +2,7 @@
 use Rattle.std.specs.Prelude.{ℕ, ◌+◌, ◌≡◌, List, ◌++◌, take, drop}
 use Rattle.rules.specs.Rows.{bytes}
 use Rattle.rules.specs.Flat.{flat_digits}
-use Rattle.cartridge.specs.declared.HeaderAnswer.{HeaderAnswer}
+use Rattle.cartridge.specs.Header.{HeaderAnswer}
 use Rattle.exports.specs.Numbers.{header_number, fields_after}
 use Rattle.exports.specs.Calls.{WriteOwes, moved_pages}
 use Rattle.exports.specs.declared.Wrote.{Wrote}

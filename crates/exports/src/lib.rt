@@ -2,133 +2,93 @@
 // No rule of a board stands here: a call decodes the state, calls the board and keeps what moved.
 #![tactic(auto)]
 
-ghost use Rattle.std.specs.Prelude.{◌≡◌, cond, [], ◌∷◌, ◌+◌, ◌≤◌, length};
-ghost use Rattle.rules.specs.Flat.{flat_word, flat_digits};
+ghost use Rattle.std.specs.Prelude.{◌≡◌, cond, ◌+◌, ◌≤◌, ◌&&◌, eqb, length};
+ghost use Rattle.rules.specs.Flat.{flat_digits};
 ghost use Rattle.rules.specs.Rows.{bytes};
-ghost use Rattle.memory.specs.Memory.{part, copied};
+ghost use Rattle.memory.specs.Memory.{part};
 ghost use Rattle.exports.specs.Numbers.{refused, read_number, write_number, clock_number, load_number, moved_number, pages_number, fields_of, version};
-ghost use Rattle.exports.specs.Bytes.{word_at, five_words, words_in, bytes_of, state_left};
+ghost use Rattle.exports.specs.Bytes.{word_at, five_words, words_in, bytes_of, board_in, is_state, state_left};
 ghost use Rattle.exports.specs.Calls.{read_bytes, WriteOwes, WriteMovedOwes, ClockOwes, LoadOwes, HeaderOwes, DigitsOwes, PagesOwes};
 ghost use Rattle.exports.specs.Steps.{word_put, FieldsPut, WroteOwes};
 
-use boards::{ClockAnswer, LoadAnswer, WriteAnswer};
-use cartridge::{Header, HeaderAnswer};
+use boards::{Board, ClockAnswer, WriteAnswer};
+use cartridge::Header;
 use common::{Mode, Refusal};
 use pages::{PagesAnswer, Parts};
-use places::ReadAnswer;
+use places::{Lent, ReadAnswer};
 use states::Words;
 
 // A write's answer, and the pages that it may have moved.
-#[derive(Clone, Copy)]
+#[derive(Clone, Copy, Debug, PartialEq, Eq)]
 pub struct Wrote {
     pub answer: u16,
     pub parts: Parts,
 }
 
+// The answers as numbers. Functions, since neither the answers nor the numbers are types of this crate.
+
 // An answer of 256 or more is a refusal, 256 above its number.
+#[tactic(auto, unfolding(crate::specs::Numbers::refused))]
 fn refusal(why: Refusal) -> u16
     ensures { result ≡ refused why }
 {
-    256 + (why.number() as u16)
+    256 + (u8::from(why) as u16)
 }
 
 #[tactic(auto, unfolding(crate::specs::Numbers::read_number))]
 fn read_number(answer: ReadAnswer) -> u16
     ensures { result ≡ read_number answer }
 {
-    match answer {
-        ReadAnswer::Byte(byte) => byte as u16,
-        ReadAnswer::Refused(why) => refusal(why),
-    }
+    answer.map_or_else(refusal, u16::from)
 }
 
 #[tactic(auto, unfolding(crate::specs::Numbers::write_number))]
 fn write_number(answer: WriteAnswer) -> u16
     ensures { result ≡ write_number answer }
 {
-    match answer {
-        WriteAnswer::Quiet => 0,
-        WriteAnswer::Notice(mirroring) => mirroring.letter() as u16,
-        WriteAnswer::Refused(why) => refusal(why),
-    }
+    answer.map_or_else(refusal, |notice| match notice {
+        Some(mirroring) => u16::from(mirroring.letter()),
+        None => 0,
+    })
 }
 
+// By cases: `map_or_else` costs a clock ten to sixteen instructions more.
 #[tactic(auto, unfolding(crate::specs::Numbers::clock_number))]
 fn clock_number(answer: ClockAnswer) -> u16
     ensures { result ≡ clock_number answer }
 {
     match answer {
-        ClockAnswer::No => 0,
-        ClockAnswer::Yes => 1,
-        ClockAnswer::Refused(why) => refusal(why),
+        Ok(yes) => yes as u16,
+        Err(why) => refusal(why),
     }
-}
-
-#[tactic(auto, unfolding(crate::specs::Numbers::load_number))]
-fn load_number(answer: LoadAnswer) -> u16
-    ensures { result ≡ load_number answer }
-{
-    match answer {
-        LoadAnswer::Accepted => 0,
-        LoadAnswer::Refused(why) => refusal(why),
-    }
-}
-
-// The value of a bit where it is set, else 0.
-fn bit(set: bool, value: u32) -> u32
-    ensures { (result ≡ cond set value 0) × (result ≤ value) }
-{
-    if set { value } else { 0 }
 }
 
 // Above a write's answer: which pages it may have moved.
+#[tactic(auto, unfolding(crate::specs::Numbers::moved_number))]
 fn moved_number(parts: Parts) -> u32
     ensures { (result ≡ moved_number parts) × (result ≤ 0x70000) }
 {
-    bit(parts.chr, 0x1_0000) + bit(parts.prg, 0x2_0000) + bit(parts.ram, 0x4_0000)
+    (parts.chr as u32) * 0x1_0000 + (parts.prg as u32) * 0x2_0000 + (parts.ram as u32) * 0x4_0000
 }
 
 #[tactic(auto, unfolding(crate::specs::Numbers::pages_number))]
 fn pages_number(answer: PagesAnswer) -> u16
     ensures { result ≡ pages_number answer }
 {
-    match answer {
-        PagesAnswer::Told => 0,
-        PagesAnswer::Refused(why) => refusal(why),
-    }
+    answer.map_or_else(refusal, |()| 0)
 }
 
 // Eight bytes as one word, the least first.
-fn word(a: u8, b: u8, c: u8, d: u8, e: u8, f: u8, g: u8, h: u8) -> u64
-    ensures { (result ≡ flat_word bytes (a ∷ b ∷ c ∷ d ∷ e ∷ f ∷ g ∷ h ∷ [])) × (flat_digits bytes result ≡ a ∷ b ∷ c ∷ d ∷ e ∷ f ∷ g ∷ h ∷ []) }
-{
-    (a as u64)
-        + (b as u64) * 0x100
-        + (c as u64) * 0x1_0000
-        + (d as u64) * 0x100_0000
-        + (e as u64) * 0x1_0000_0000
-        + (f as u64) * 0x100_0000_0000
-        + (g as u64) * 0x1_0000_0000_0000
-        + (h as u64) * 0x100_0000_0000_0000
-}
-
-// Read without a test of each place, so that the compiler makes it one load.
+#[tactic(auto, unfolding(crate::specs::Bytes::word_at))]
 fn word_at(s: &[u8], i: usize) -> u64
     requires { i + 8 ≤ length s.now }
-    ensures { (result ≡ word_at s.now i) × (flat_digits bytes result ≡ part s.now i 8) }
+    ensures word { result ≡ word_at s.now i }
+    ensures bytes { flat_digits bytes result ≡ part s.now i 8 }
 {
-    word(
-        s[i],
-        s[i + 1],
-        s[i + 2],
-        s[i + 3],
-        s[i + 4],
-        s[i + 5],
-        s[i + 6],
-        s[i + 7],
-    )
+    u64::from_le_bytes(s[i..i + 8].try_into().unwrap())
 }
 
+#[tactic(auto, unfolding(crate::specs::Bytes::five_words))]
 fn five_words(s: &[u8]) -> Words
     requires { length s.now ≡ 40 }
     ensures { result ≡ five_words s.now }
@@ -142,49 +102,30 @@ fn five_words(s: &[u8]) -> Words
     }
 }
 
+#[tactic(auto, unfolding(crate::specs::Bytes::words_in))]
 fn words_in(s: &[u8]) -> Words
     ensures { result ≡ words_in s.now }
 {
     if s.len() == 40 {
         five_words(s)
     } else {
-        Words {
-            cart: 0,
-            length: 0,
-            banks: 0,
-            regs: 0,
-            irq: 0,
-        }
+        Words::default()
     }
 }
 
-// The bytes of a word, the least first.
-fn bytes_of_word(w: u64) -> [u8; 8]
-    ensures { result ≡ flat_digits bytes w }
-{
-    [
-        (w % 0x100) as u8,
-        (w / 0x100 % 0x100) as u8,
-        (w / 0x1_0000 % 0x100) as u8,
-        (w / 0x100_0000 % 0x100) as u8,
-        (w / 0x1_0000_0000 % 0x100) as u8,
-        (w / 0x100_0000_0000 % 0x100) as u8,
-        (w / 0x1_0000_0000_0000 % 0x100) as u8,
-        (w / 0x100_0000_0000_0000 % 0x100) as u8,
-    ]
-}
-
 // A word over its bytes in the state; where it has not moved, nothing is stored.
+#[tactic(auto, unfolding(crate::specs::Steps::word_put), using(crate::proofs::Put::put_same))]
 fn put_word(s: &mut [u8], at: usize, w: u64)
     requires { at + 8 ≤ length s.old }
     ensures { s.new ≡ word_put s.old at w }
 {
     if word_at(s, at) != w {
-        let end = at + 8;
-        memory::copy(&mut s[at..end], &bytes_of_word(w));
+        s[at..at + 8].copy_from_slice(&w.to_le_bytes());
     }
 }
 
+// One line each, as they are named: a loop over the state's chunks would take them from a list.
+#[tactic(auto, using(crate::proofs::Put::forty))]
 fn put_words(s: &mut [u8], w: Words)
     requires { length s.old ≡ 40 }
     ensures { s.new ≡ bytes_of w }
@@ -197,18 +138,49 @@ fn put_words(s: &mut [u8], w: Words)
 }
 
 // After a refusal the state holds what it held.
+#[tactic(auto, unfolding(crate::specs::Bytes::state_left))]
 fn keep(state: &mut [u8], answer: u16, w: Words)
     ensures { state.new ≡ state_left state.old answer w }
 {
-    if answer < 256 {
-        if state.len() == 40 {
-            put_words(state, w);
-        }
+    if (answer < 256) & (state.len() == 40) {
+        put_words(state, w);
     }
 }
 
-// The calls of a board: decoded, judged in the four parts of `states`, served, and what moved is kept. The
-// judgement stands in each of them, since one function for all would not be compiled into its callers.
+// A lent state: its words, the board that they hold, and whether a board could have them.
+#[derive(Clone, Copy)]
+struct State {
+    words: Words,
+    board: Board,
+    fits: bool,
+}
+
+impl State {
+    // In line in every call, with what it calls. Judged before the board is decoded: the other way round a read took
+    // 18 instructions more of 400.
+    #[inline(always)]
+    fn of(bytes: &[u8]) -> State
+        ensures words { result.words ≡ words_in bytes.now }
+        ensures board { result.board ≡ board_in bytes.now }
+        ensures fits { result.fits ≡ is_state bytes.now }
+    {
+        let words = words_in(bytes);
+        let fits = words.are_kept();
+        let board = Board::from(words);
+        State { words, board, fits }
+    }
+
+    // Whether it fits, and the image is as long as the one that was loaded.
+    #[inline(always)]
+    fn fits_with(self, image: &[u8]) -> bool
+        ensures { result ≡ (self.fits && eqb (length image.now) self.words.length) }
+    {
+        self.fits & (image.len() as u64 == self.words.length)
+    }
+}
+
+// The calls of a board: decoded and judged, served, and what moved is kept.
+#[tactic(auto, unfolding(crate::specs::Calls::read_bytes))]
 pub fn biekkarul_read<'a>(
     state: &[u8],
     image: &'a [u8],
@@ -218,15 +190,10 @@ pub fn biekkarul_read<'a>(
 ) -> u16
     ensures { result ≡ read_bytes state.now image.now prg.now chr.now address }
 {
-    let w = words_in(state);
-    let board = states::board_in(w);
-    let mapper = states::mapper_in(w.cart);
-    let fits = states::cart_is_kept(mapper, w.cart, w.length)
-        & states::mode_is_kept(mapper, w.cart)
-        & states::banks_are_kept(mapper, w.banks)
-        & states::mmc3_is_kept(mapper, w.cart, w.regs, w.irq);
-    let loaded = (image.len() as u64) == w.length;
-    read_number(board.read_if(fits & loaded, image, prg, chr, address))
+    let held = State::of(state);
+    let fits = held.fits_with(image);
+    let lent = Lent { image, prg, chr };
+    read_number(held.board.read_if(fits, lent, address))
 }
 
 // The one write behind both exported ones: its answer, and the pages that it may have moved.
@@ -240,20 +207,14 @@ fn write_in(
 ) -> Wrote
     ensures { WroteOwes state.old image.now prg.old chr.old address value result state.new prg.new chr.new }
 {
-    let w = words_in(state);
-    let board = states::board_in(w);
-    let mapper = states::mapper_in(w.cart);
-    let fits = states::cart_is_kept(mapper, w.cart, w.length)
-        & states::mode_is_kept(mapper, w.cart)
-        & states::banks_are_kept(mapper, w.banks)
-        & states::mmc3_is_kept(mapper, w.cart, w.regs, w.irq);
-    let loaded = (image.len() as u64) == w.length;
-    let written = board.write_if(fits & loaded, prg, chr, address, value);
-    let said = written.answer;
-    let answer = write_number(said);
-    let next = written.board;
-    let parts = pages::moved(mapper, board.registers, next.registers);
-    keep(state, answer, states::after_write(mapper, w, next));
+    let held = State::of(state);
+    let mapper = held.board.cart.mapper;
+    let fits = held.fits_with(image);
+    let written = held.board.write_if(fits, prg, chr, address, value);
+    let answer = write_number(written.answer);
+    let next = written.left;
+    let parts = pages::moved(mapper, held.board.registers, next.registers);
+    keep(state, answer, held.words.after_write(mapper, next));
     Wrote { answer, parts }
 }
 
@@ -267,8 +228,7 @@ pub fn biekkarul_write(
 ) -> u16
     ensures { WriteOwes state.old image.now prg.old chr.old address value result state.new prg.new chr.new }
 {
-    let wrote = write_in(state, image, prg, chr, address, value);
-    wrote.answer
+    write_in(state, image, prg, chr, address, value).answer
 }
 
 // The same write, with the pages that it may have moved above its answer.
@@ -286,24 +246,18 @@ pub fn biekkarul_write_moved(
     (wrote.answer as u32) + moved_number(wrote.parts)
 }
 
+#[tactic(auto, using(crate::proofs::Keeps::clock_kept))]
 pub fn biekkarul_clock(state: &mut [u8]) -> u16
     ensures { ClockOwes state.old result state.new }
 {
-    let w = words_in(state);
-    let board = states::board_in(w);
-    let mapper = states::mapper_in(w.cart);
-    let fits = states::cart_is_kept(mapper, w.cart, w.length)
-        & states::mode_is_kept(mapper, w.cart)
-        & states::banks_are_kept(mapper, w.banks)
-        & states::mmc3_is_kept(mapper, w.cart, w.regs, w.irq);
-    let clocked = board.clock_if(fits);
-    let said = clocked.answer;
-    let answer = clock_number(said);
-    let next = clocked.board;
-    keep(state, answer, states::after_clock(w, next));
+    let held = State::of(state);
+    let clocked = held.board.clock_if(held.fits);
+    let answer = clock_number(clocked.answer);
+    keep(state, answer, held.words.after_clock(clocked.left));
     answer
 }
 
+#[tactic(auto, unfolding(crate::specs::Bytes::state_left, crate::specs::Numbers::load_number, crate::specs::Numbers::refused, cartridge::specs::Load::loaded_as, boards::specs::Start::loaded_board, boards::specs::Start::load_answer, boards::specs::Start::board_of, cartridge::specs::Load::ram_after))]
 pub fn biekkarul_load(
     image: &[u8],
     mode: u8,
@@ -313,46 +267,28 @@ pub fn biekkarul_load(
 ) -> u16
     ensures { LoadOwes image.now mode state.old prg.old chr.old result state.new prg.new chr.new }
 {
-    if cartridge::rams_fit(prg.len(), chr.len()) {
-        if (state.len() == 40) & (mode < 2) {
-            let loaded = boards::load(image, Mode::numbered(mode), prg, chr);
-            let said = loaded.answer;
-            let answer = load_number(said);
-            let board = loaded.board;
-            keep(state, answer, states::words_of(board));
-            answer
-        } else {
-            refusal(Refusal::StateOutOfRange)
-        }
-    } else {
+    if !cartridge::rams_fit(prg.len(), chr.len()) {
         refusal(Refusal::RamNot8K)
-    }
-}
-
-// Copies all of src, where dst has just its length; else nothing.
-fn copy_digits(dst: &mut [u64], src: &[u64])
-    ensures { dst.new ≡ copied dst.old src.now }
-{
-    if dst.len() == src.len() {
-        for i in 0..dst.len() {
-            dst[i] = src[i];
+    } else if (state.len() != 40) | (mode >= 2) {
+        refusal(Refusal::StateOutOfRange)
+    } else {
+        match boards::load(image, Mode::from(mode), prg, chr) {
+            Ok(board) => {
+                put_words(state, Words::from(board));
+                0
+            }
+            Err(why) => refusal(why),
         }
     }
 }
 
 // What the state holds, digit by digit, so that no caller needs to know its bits.
-#[tactic(auto, using(crate::proofs::Keeps::four_parts), unfolding(memory::specs::Memory::copied))]
 pub fn biekkarul_digits(state: &[u8], digits: &mut [u64]) -> u16
     ensures { DigitsOwes state.now digits.old result digits.new }
 {
-    let w = words_in(state);
-    let mapper = states::mapper_in(w.cart);
-    let fits = states::cart_is_kept(mapper, w.cart, w.length)
-        & states::mode_is_kept(mapper, w.cart)
-        & states::banks_are_kept(mapper, w.banks)
-        & states::mmc3_is_kept(mapper, w.cart, w.regs, w.irq);
-    if fits & (digits.len() == 40) {
-        copy_digits(digits, &states::digits_of(w));
+    let held = State::of(state);
+    if held.fits & (digits.len() == 40) {
+        digits.copy_from_slice(&held.words.digits());
         0
     } else {
         refusal(Refusal::StateOutOfRange)
@@ -360,19 +296,16 @@ pub fn biekkarul_digits(state: &[u8], digits: &mut [u64]) -> u16
 }
 
 // Where each page is read from, and where a write to it goes, as the state has them.
+#[tactic(auto, using(crate::proofs::Keeps::number_told))]
 pub fn biekkarul_pages(state: &[u8], first: u8, reads: &mut [u32], writes: &mut [u32]) -> u16
     ensures { PagesOwes state.now first reads.old writes.old result reads.new writes.new }
 {
-    let w = words_in(state);
-    let board = states::board_in(w);
-    let mapper = states::mapper_in(w.cart);
-    let fits = states::cart_is_kept(mapper, w.cart, w.length)
-        & states::mode_is_kept(mapper, w.cart)
-        & states::banks_are_kept(mapper, w.banks)
-        & states::mmc3_is_kept(mapper, w.cart, w.regs, w.irq);
-    pages_number(pages::pages_if(fits, board, first, reads, writes))
+    let held = State::of(state);
+    pages_number(pages::pages_if(held.fits, held.board, first, reads, writes))
 }
 
+// A function, since neither type is this crate's.
+#[tactic(auto, unfolding(crate::specs::Numbers::fields_of))]
 fn fields_of(h: Header) -> [u8; 12]
     ensures { result ≡ fields_of h }
 {
@@ -382,17 +315,17 @@ fn fields_of(h: Header) -> [u8; 12]
     ]
 }
 
-#[tactic(auto, unfolding(crate::specs::Numbers::header_number, crate::specs::Numbers::fields_after, crate::specs::Numbers::fields_of, memory::specs::Memory::copied))]
-fn put_fields(answer: HeaderAnswer, fields: &mut [u8]) -> u16
+#[tactic(auto, unfolding(crate::specs::Numbers::header_number, crate::specs::Numbers::fields_after, crate::specs::Numbers::fields_of))]
+fn put_fields(answer: Result<Header, Refusal>, fields: &mut [u8]) -> u16
     requires { length fields.old ≡ 12 }
     ensures { FieldsPut answer fields.old result fields.new }
 {
     match answer {
-        HeaderAnswer::Read(h) => {
-            memory::copy(fields, &fields_of(h));
+        Ok(h) => {
+            fields.copy_from_slice(&fields_of(h));
             0
         }
-        HeaderAnswer::Refused(why) => refusal(why),
+        Err(why) => refusal(why),
     }
 }
 

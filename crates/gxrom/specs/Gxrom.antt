@@ -3,7 +3,7 @@ use Rattle.std.specs.Prelude.{ℕ, ◌/◌, ◌%◌, Bool, cond, ◌&&◌, ltb, 
 use Rattle.cartridge.specs.declared.Cartridge.{Cartridge}
 use Rattle.places.specs.Whole.{whole_banks}
 use Rattle.places.specs.Windows.{Window, board_chr_ram}
-use Rattle.places.specs.declared.Landing.{Landing}
+use Rattle.places.specs.Places.{Landing}
 use Rattle.gxrom.specs.declared.Gxrom.{Gxrom}
 
 -- document 01: "Registers start at 0"

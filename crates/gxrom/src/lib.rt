@@ -9,7 +9,7 @@ use banks::{Bank8K, Bank32K};
 use cartridge::Cartridge;
 use places::Landing;
 
-#[derive(Clone, Copy)]
+#[derive(Clone, Copy, Debug, PartialEq, Eq)]
 pub struct Gxrom {
     pub prg: u8,
     pub chr: u8,
@@ -25,7 +25,7 @@ impl Gxrom {
     pub fn is_start(self) -> bool
         ensures { result ≡ is_start self }
     {
-        (self.prg == 0) & (self.chr == 0)
+        self == Gxrom::new()
     }
 
     pub fn fits(self) -> bool
@@ -39,8 +39,8 @@ impl Gxrom {
     {
         places::whole_banks(
             cart,
-            Bank8K(self.chr as u32),
-            Bank32K(self.prg as u32),
+            Bank8K::new(self.chr as u32),
+            Bank32K::new(self.prg as u32),
             address,
         )
     }
@@ -48,19 +48,17 @@ impl Gxrom {
     pub fn write_landing(self, cart: Cartridge, address: u16) -> Landing
         ensures { result ≡ lands_in cart (write_window self cart address) address }
     {
-        places::board_chr_ram(cart, Bank8K(self.chr as u32), address)
+        places::board_chr_ram(cart, Bank8K::new(self.chr as u32), address)
     }
 
+    #[tactic(auto, unfolding(crate::specs::Gxrom::written, places::specs::Windows::lands_in))]
     pub fn write8(mut self, value: u8, address: u16) -> Self
         ensures { result ≡ written self value address }
     {
-        match address {
-            0x8000..=0xffff => {
-                self.prg = value / 16 % 4;
-                self.chr = value % 4;
-                self
-            }
-            _ => self,
+        if 0x8000 <= address {
+            self.prg = value / 16 % 4;
+            self.chr = value % 4;
         }
+        self
     }
 }

@@ -1,16 +1,16 @@
 -- Whether a write is accepted depends on what was loaded, on the lent lengths and on whether the board refuses the address; the real board refuses none.
 -- Assumes nothing.
+use native.Mathlib.Omega.{arith}
 use Prim.Native.Nat.{ℕ}
-use mathlib.Core.Path.{◌≡◌, refl, sym, ap, ◌∙◌}
-use mathlib.Core.Bool.{Bool, true, false, cond, ◌&&◌}
+use mathlib.Core.Path.{◌≡◌, sym, ap, ◌∙◌}
+use mathlib.Core.Bool.{Bool, true, cond, ◌&&◌}
 use lib.Dec.{eqb}
 use lib.ListN.{length}
 use Rattle.common.specs.declared.Mode.TheVariants.{Board as OnBoard}
 use Rattle.cartridge.specs.Load.{rams_fit}
 use Rattle.cartridge.specs.declared.Cartridge.{Cartridge}
 use Rattle.cartridge.specs.declared.MapperType.{MapperType}
-use Rattle.places.specs.declared.Landing.{Landing}
-use Rattle.places.specs.declared.Landing.TheVariants.{At, Refused}
+use Rattle.places.specs.Places.{Landing}
 use Rattle.boards.specs.Range.{in_range, is_loaded, guarded}
 use Rattle.boards.specs.Write.{write_landing, accepted_write, written_as, landing}
 use Rattle.boards.specs.Runs.{Lent}
@@ -22,14 +22,11 @@ use Rattle.laws.proofs.Within.{board_writes}
 
 found_accepted : (p : Landing) → Found p → is_accepted p ≡ true
 unfolding is_accepted
-found_accepted (Refused why) f = absurd f
-found_accepted (At p) f = refl
+found_accepted p f = grind arith
 
 guarded_alike : (rams s t : Bool) (p q : Landing) → s ≡ t → is_accepted p ≡ is_accepted q → is_accepted (guarded rams s p) ≡ is_accepted (guarded rams t q)
 unfolding guarded
-guarded_alike false s t p q e f = refl
-guarded_alike true s true p q e f = rw e f
-guarded_alike true s false p q e f = rw e refl
+guarded_alike rams s t p q e f = grind arith
 
 -- two boards of one image
 module _ {k : MapperType} {b d : Board} (o : OneImage k b d) where
@@ -50,7 +47,6 @@ module _ {k : MapperType} {b d : Board} (o : OneImage k b d) where
       (loaded_alike (length l.image)) e
 
 -- the board after a write, by whether it is accepted
-pub after_write : (b : Board) (p : Landing) (v a : ℕ) → (written_as b p v a).board ≡ cond (is_accepted p) (accepted_write b v a).board b
+pub after_write : (b : Board) (p : Landing) (v a : ℕ) → (written_as b p v a).left ≡ cond (is_accepted p) (accepted_write b v a).left b
 unfolding written_as is_accepted
-after_write b (Refused why) v a = refl
-after_write b (At p) v a = refl
+after_write b p v a = grind arith

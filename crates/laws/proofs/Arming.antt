@@ -17,7 +17,7 @@ use Rattle.boards.specs.Write.{turned, accepted_write, landing}
 use Rattle.boards.specs.Clock.{yes_no, accepted_clock, clock}
 use Rattle.boards.specs.Runs.{next}
 use Rattle.boards.specs.declared.Board.{Board}
-use Rattle.boards.specs.declared.Ticked.{Ticked}
+use Rattle.boards.specs.Registers.{Ticked}
 use Rattle.laws.specs.Calls.{OneImage, LentWrite, wrote}
 use Rattle.laws.specs.Clocks.{line_up}
 use Rattle.laws.specs.Loads.{accepts}
@@ -26,9 +26,9 @@ use Rattle.laws.proofs.Accepting.{after_write}
 use Rattle.laws.proofs.Clocks.{ready}
 use Rattle.laws.proofs.OneImage.{wrote_one}
 
-pub moved_mmc3 : (b : Board) → b.cart.mapper ≡ Mmc3 → (v a : ℕ) → (accepted_write b v a).board.registers.mmc3 ≡ applied b.cart.mode (move_of v a) b.registers.mmc3
+pub moved_mmc3 : (b : Board) → b.cart.mapper ≡ Mmc3 → (v a : ℕ) → (accepted_write b v a).left.registers.mmc3 ≡ applied b.cart.mode (move_of v a) b.registers.mmc3
 unfolding accepted_write turned moved written
-moved_mmc3 b e v a = ap (λ (k : MapperType). (moved k b.cart.mode b.registers v a).registers.mmc3) e
+moved_mmc3 b e v a = ap (λ (k : MapperType). (moved k b.cart.mode b.registers v a).left.mmc3) e
 
 -- a clock of a board in range is MMC3's
 module _ (b : Board) (ok : in_range b ≡ true) (is_mmc3 : b.cart.mapper ≡ Mmc3) where
@@ -36,13 +36,13 @@ module _ (b : Board) (ok : in_range b ≡ true) (is_mmc3 : b.cart.mapper ≡ Mmc
   unfolding ticked is_mapper
   ticked_is = ap (λ (k : MapperType). ticked k b.cart.mode b.registers) is_mmc3
 
-  pub tick_mmc3 : (clock b).board.registers.mmc3 ≡ (mmc3-clock.clocked b.cart.mode b.registers.mmc3).mmc3
+  pub tick_mmc3 : (clock b).left.registers.mmc3 ≡ (mmc3-clock.clocked b.cart.mode b.registers.mmc3).left
   unfolding clock accepted_clock
-  tick_mmc3 = rw ok (ap (λ (t : Ticked). t.registers.mmc3) ticked_is)
+  tick_mmc3 = rw ok (ap (λ (t : Ticked). t.left.mmc3) ticked_is)
 
   pub tick_answer : (clock b).answer ≡ yes_no (mmc3-clock.clocked b.cart.mode b.registers.mmc3).answer
   unfolding clock accepted_clock
-  tick_answer = rw ok (ap (λ (t : Ticked). yes_no t.yes) ticked_is)
+  tick_answer = rw ok (ap (λ (t : Ticked). yes_no t.answer) ticked_is)
 
 -- an accepted write leaves what its move makes
 pub accepted_mmc3 : (b : Board) → b.cart.mapper ≡ Mmc3 → (w : LentWrite) (k : Move) → accepts b w.lent w.address ≡ true → move_of w.byte w.address ≡ k
@@ -51,7 +51,7 @@ unfolding next
 accepted_mmc3 b is_mmc3 w k e f =
     let l = w.lent in
     ap (λ (x : Board). x.registers.mmc3) (after_write b (landing b l.image l.prg l.chr w.address) w.byte w.address)
-    ∙ ap (λ (t : Bool). (cond t (accepted_write b w.byte w.address).board b).registers.mmc3) e
+    ∙ ap (λ (t : Bool). (cond t (accepted_write b w.byte w.address).left b).registers.mmc3) e
     ∙ moved_mmc3 b is_mmc3 w.byte w.address
     ∙ ap (λ (x : Move). applied b.cart.mode x b.registers.mmc3) f
 

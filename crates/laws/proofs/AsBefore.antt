@@ -1,8 +1,8 @@
 -- An image that is not read as NES 2.0 loads as document 01 says, and its board has its PRG RAM; only one that is read so is refused by 16; no load looks at
 -- bytes 12 to 15. Assumes nothing.
-use Prim.Native.Nat.{ℕ, ◌+◌, ◌*◌, ◌%◌, ◌<◌, ◌≤◌}
+use Prim.Native.Nat.{ℕ, ◌<◌, ◌≤◌}
 use mathlib.Core.Path.{◌≡◌, refl, sym, ◌∙◌}
-use mathlib.Core.Bool.{Bool, true, false, false≢true, cond, not, ◌||◌}
+use mathlib.Core.Bool.{Bool, true, false, not, ◌||◌}
 use mathlib.Core.List.{List, [], ◌∷◌}
 use native.Mathlib.Omega.{arith}
 use lib.Dec.{ltb}
@@ -22,9 +22,9 @@ use Rattle.cartridge.specs.declared.Header.{Header}
 use Rattle.cartridge.proofs.Nes2.{plain_mapper, plain_prg, plain_chr, plain_taken, plain_ram}
 use Rattle.cartridge.proofs.Range.{fields}
 use Rattle.places.specs.Windows.{prg_ram_of}
-use Rattle.places.specs.Windows.Window.{PrgRam, Empty}
+use Rattle.places.specs.Windows.Window.{PrgRam}
 use Rattle.boards.specs.Numbers.{refused_by, load_number}
-use Rattle.boards.specs.Start.{load}
+use Rattle.boards.specs.Start.{load, load_answer}
 use Rattle.laws.specs.AsBefore.{last_three, ines_refusals, AsBefore}
 use Rattle.laws.specs.Numbers.{first_number, answer_of}
 use Rattle.laws.proofs.Numbers.{a_load_answers_the_first_number}
@@ -53,38 +53,23 @@ every_unmarked_load_is_as_before s prg chr e = every_other_load_is_as_before s O
 -- and a board that is not read as NES 2.0 has its PRG RAM where it had it
 pub every_other_board_has_its_ram : (c : Cartridge) → could_load c ≡ true → is_nes2_in c.mode c.nes2 ≡ false → prg_ram_of c ≡ PrgRam
 unfolding prg_ram_of prg_ram_fits
-every_other_board_has_its_ram c h e = go c.prgram (is_nes2_in c.mode c.nes2) (fields c h).noted e
-  where
-    go : (ram nes2 : Bool) → (ram || nes2) ≡ true → nes2 ≡ false → cond ram PrgRam Empty ≡ PrgRam
-    go true nes2 f g = refl
-    go false nes2 f g = absurd (false≢true (sym g ∙ f))
+every_other_board_has_its_ram c h e = let n = (fields c h).noted in grind arith
 
 -- a load that answers 16 found none of the rows before it
 before : (b9 b3 b4 b5 b16 : Bool) (rs : List Row) → answer_of (first_number (given 9 b9 ∷ given 3 b3 ∷ given 4 b4 ∷ given 5 b5 ∷ given 16 b16 ∷ rs)) ≡ refused_by 16
     → (b9 ≡ false) × (b3 ≡ false) × (b4 ≡ false) × (b5 ≡ false)
-before true b3 b4 b5 b16 rs e = absurd (omega (arith, e))
-before false true b4 b5 b16 rs e = absurd (omega (arith, e))
-before false false true b5 b16 rs e = absurd (omega (arith, e))
-before false false false true b16 rs e = absurd (omega (arith, e))
-before false false false false b16 rs e = (refl, refl, refl, refl)
+before b9 b3 b4 b5 b16 rs e = grind arith
 
 -- where it is not due, none after it is 16
 after : (b6 b7 b8 : Bool) → answer_of (first_number (given 6 b6 ∷ given 7 b7 ∷ given 8 b8 ∷ [])) ≡ refused_by 16 → ⊥
-after true b7 b8 e = omega (arith, e)
-after false true b8 e = omega (arith, e)
-after false false true e = omega (arith, e)
-after false false false e = omega (arith, e)
+after b6 b7 b8 e = grind arith
 
 -- the mapper number of iNES is no greater than the longer one
 no_greater : (mode : Mode) (h : Header) → mapper_of h ≤ mapper_in mode h
 unfolding mapper_in
-no_greater mode h = go (extended mode h)
-  where
-    go : (t : Bool) → mapper_of h ≤ cond t (mapper_of h + h.flags8 % 16 * 256) (mapper_of h)
-    go true = omega arith
-    go false = omega arith
+no_greater mode h = grind arith
 
-module _ (s : List ℕ) (mode : Mode) (prg chr : ℕ) (e : load_number (load s mode prg chr).answer ≡ refused_by 16) where
+module _ (s : List ℕ) (mode : Mode) (prg chr : ℕ) (e : load_number (load_answer (load s mode prg chr)) ≡ refused_by 16) where
   abbrev h : Header
   h = header_of s
 

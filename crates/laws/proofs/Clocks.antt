@@ -9,17 +9,15 @@ use native.Mathlib.Numerals.{add-one}
 use native.Mathlib.Omega.{arith}
 use lib.Dec.{eqb}
 use borrow.Author.Tests.{eqb-true, eqb-false}
-use Rattle.rules.proofs.Bools.{either}
 use Rattle.common.specs.declared.Mode.{Mode}
 use Rattle.common.specs.declared.Mode.TheVariants.{House, Board}
 use Rattle.mmc3.specs.Clock.{house_clock, next_counter, board_clock, clock_in}
-use Rattle.mmc3.specs.declared.Clocked.{Clocked}
 use Rattle.mmc3.specs.declared.Irq.{Irq}
 
 -- the unit after k clocks
 abbrev pub unit_after : Mode → ℕ → Irq → Irq
 unit_after mode zero u = u
-unit_after mode (suc k) u = (clock_in mode (unit_after mode k u)).irq
+unit_after mode (suc k) u = (clock_in mode (unit_after mode k u)).left
 
 -- whether clock k, counted from one, answers yes
 abbrev pub unit_says : Mode → ℕ → Irq → Bool
@@ -38,22 +36,14 @@ abbrev pub ready : ℕ → ℕ → Irq
 ready n c = record { enabled = true; latch = n; counter = c; reload = true }
 
 -- in either mode the same move
-moves : (mode : Mode) (u : Irq) → (clock_in mode u).irq ≡ (board_clock u).irq
+moves : (mode : Mode) (u : Irq) → (clock_in mode u).left ≡ (board_clock u).left
 unfolding clock_in house_clock board_clock next_counter
-moves Board u = refl
-moves House u = go u.reload (eqb u.counter 0) refl refl
-  where
-    go : (b z : Bool) → u.reload ≡ b → eqb u.counter 0 ≡ z → (house_clock u).irq ≡ (board_clock u).irq
-    go true z e d = simp e
-    go false true e d = simp (e, d)
-    go false false e d = simp (e, d)
+moves mode u = grind arith
 
 -- a clock leaves the latch and the enable
-pub clock_keeps : (P : Irq → Type 0) (mode : Mode) (u : Irq) → ((c : ℕ) → P (record { enabled = u.enabled; latch = u.latch; counter = c; reload = false })) → P (clock_in mode u).irq
+pub clock_keeps : (P : Irq → Type 0) (mode : Mode) (u : Irq) → ((c : ℕ) → P (record { enabled = u.enabled; latch = u.latch; counter = c; reload = false })) → P (clock_in mode u).left
 unfolding clock_in house_clock board_clock
-clock_keeps P House u h =
-    either (λ (c : Clocked). P c.irq) u.reload (h u.latch) (either (λ (c : Clocked). P c.irq) (eqb u.counter 0) (h u.latch) (h (u.counter - 1)))
-clock_keeps P Board u h = h (next_counter u)
+clock_keeps P mode u h = grind arith
 
 wraps : (n j : ℕ) → shown n j ≡ 0 → suc j % suc n ≡ 0
 wraps n j h =
@@ -65,22 +55,22 @@ counts : (n j : ℕ) → (shown n j ≡ 0 → ⊥) → suc j % suc n ≡ suc (j 
 counts n j h = let b : suc (j % suc n) < suc n = omega arith in suc-mod j (suc n) ∙ mod-eq_of_lt b
 
 -- one clock takes the unit from one place of the row to the next
-step : (n j : ℕ) → (board_clock (unit n (shown n j))).irq ≡ unit n (shown n (suc j))
+step : (n j : ℕ) → (board_clock (unit n (shown n j))).left ≡ unit n (shown n (suc j))
 unfolding board_clock next_counter
 step n j = go (eqb (shown n j) 0) refl
   where
-    go : (b : Bool) → eqb (shown n j) 0 ≡ b → (board_clock (unit n (shown n j))).irq ≡ unit n (shown n (suc j))
+    go : (b : Bool) → eqb (shown n j) 0 ≡ b → (board_clock (unit n (shown n j))).left ≡ unit n (shown n (suc j))
     go true e = rw e (ap (unit n) (omega (arith, wraps n j (eqb-true _ _ e))))
     go false e = rw e (ap (unit n) (omega (arith, counts n j (eqb-false _ _ e))))
 
-first : (n c : ℕ) → (board_clock (ready n c)).irq ≡ unit n (shown n 0)
+first : (n c : ℕ) → (board_clock (ready n c)).left ≡ unit n (shown n 0)
 unfolding board_clock next_counter
 first n c = ap (unit n) (omega (arith, mod-eq_of_lt {n = 0} {m = suc n} (omega arith)))
 
 passes : (mode : Mode) (n c j : ℕ) → unit_after mode (suc j) (ready n c) ≡ unit n (shown n j)
 passes mode n c zero = moves mode (ready n c) ∙ first n c
 passes mode n c (suc j) =
-    moves mode (unit_after mode (suc j) (ready n c)) ∙ ap (λ (i : Irq). (board_clock i).irq) (passes mode n c j) ∙ step n j
+    moves mode (unit_after mode (suc j) (ready n c)) ∙ ap (λ (i : Irq). (board_clock i).left) (passes mode n c j) ∙ step n j
 
 -- where the row shows 0
 zero_at : (n j : ℕ) → (eqb (shown n j) 0 ≡ true) ↔ (suc n ∣ suc j)
@@ -91,18 +81,14 @@ zero_at n j = (λ e. (dvd_iff_mod-eq-zero (suc n)).1 (wraps n j (eqb-true _ _ e)
     go false e d = absurd (omega (arith, counts n j (eqb-false _ _ e), (dvd_iff_mod-eq-zero (suc n)).0 d))
 
 -- board mode's unit says yes where, after the clock, it shows 0 and is enabled
-after_it : (i : Irq) → (board_clock i).answer ≡ ((board_clock i).irq.enabled && eqb (board_clock i).irq.counter 0)
+after_it : (i : Irq) → (board_clock i).answer ≡ ((board_clock i).left.enabled && eqb (board_clock i).left.counter 0)
 unfolding board_clock
 after_it i = refl
 
 -- a house clock without the mark answers yes where the unit before it shows 0
 before_it : (n c : ℕ) → (house_clock (unit n c)).answer ≡ eqb c 0
 unfolding house_clock
-before_it n c = go (eqb c 0) refl
-  where
-    go : (b : Bool) → eqb c 0 ≡ b → (house_clock (unit n c)).answer ≡ eqb c 0
-    go true e = rw e
-    go false e = rw e
+before_it n c = grind arith
 
 marked_no : (n c : ℕ) → (house_clock (ready n c)).answer ≡ false
 unfolding house_clock

@@ -5,22 +5,21 @@ use mathlib.Core.List.{List, [], ◌∷◌}
 use native.Mathlib.Nat.{le_of_suc-le-suc}
 use native.Mathlib.Omega.{arith}
 use Rattle.common.specs.declared.Mode.{Mode}
-use Rattle.common.specs.declared.Mode.TheVariants.{House, Board as OnBoard}
 use Rattle.cartridge.specs.declared.Cartridge.{Cartridge}
 use Rattle.cartridge.specs.declared.MapperType.TheVariants.{Mmc1}
 use Rattle.mmc1.specs.Write.{reset, load, applied}
 use Rattle.mmc1.specs.declared.Mmc1 as mmc1-type
 use Rattle.mmc1.specs.declared.Move.{Move}
-use Rattle.mmc1.specs.declared.Move.TheVariants.{Nothing, Clear, Enter, Fill}
+use Rattle.mmc1.specs.declared.Move.TheVariants.{Fill}
 use Rattle.mmc1.specs.declared.Register.{Register}
-use Rattle.mmc1.specs.declared.Register.TheVariants.{Control, Chr0, Chr1, Prg}
+use Rattle.mmc1.specs.declared.Register.TheVariants.{Control}
 use Rattle.boards.specs.Runs.{Lent, next, Call, call, after}
 use Rattle.boards.specs.declared.Board.{Board}
 use Rattle.boards.specs.declared.Event.{Event}
 use Rattle.laws.specs.Loads.{made, moves}
 use Rattle.laws.specs.SettlesMmc1.{bit4_at, LoadsAt}
 use Rattle.laws.proofs.Ranges.{next_keeps_cart}
-use Rattle.laws.proofs.Mmc1Moves.{no_load, next_is}
+use Rattle.laws.proofs.Mmc1Moves.{next_is}
 
 -- the position of a load, one call further on
 later : {b : Board} {l : Lent} {e : Event} {cs : List Call} {r : Register} {i : ℕ} → LoadsAt (next b l e) cs r i → LoadsAt b (call l e ∷ cs) r (suc i)
@@ -29,14 +28,7 @@ later l = record { bits = l.bits; done = l.done }
 
 still : (m : Mode) (k : Move) (x : mmc1-type.Mmc1) → ((v : ℕ) → k ≡ Fill Control v → ⊥) → (applied m k x).regs.chrmode ≡ x.regs.chrmode
 unfolding applied reset load
-still m Nothing x h = refl
-still House Clear x h = refl
-still OnBoard Clear x h = refl
-still m (Enter s) x h = refl
-still m (Fill Control v) x h = absurd (h v refl)
-still m (Fill Chr0 v) x h = refl
-still m (Fill Chr1 v) x h = refl
-still m (Fill Prg v) x h = refl
+still m k x h = grind arith
 
 module _ (b : Board) (is-mmc1 : b.cart.mapper ≡ Mmc1) (l : Lent) (e : Event) where
   next_mmc1 : (next b l e).cart.mapper ≡ Mmc1
@@ -65,7 +57,7 @@ stays b m (call l e ∷ cs) (suc j) h =
 pub bit_4_is_the_last_control_loads : (b : Board) → b.cart.mapper ≡ Mmc1 → (cs : List Call) (i j : ℕ) → i < j → (l : LoadsAt b cs Control i)
     → ((k : ℕ) → i < k → k < j → LoadsAt b cs Control k → ⊥) → bit4_at b cs j ≡ l.bits / 16 % 2
 unfolding after moves
-bit_4_is_the_last_control_loads b m [] i j p l h = absurd (no_load Control l.bits l.done)
+bit_4_is_the_last_control_loads b m [] i j p l h = cc
 bit_4_is_the_last_control_loads b m (call k e ∷ cs) i zero p l h = absurd (omega arith)
 bit_4_is_the_last_control_loads b m (call k e ∷ cs) zero (suc j) p l h =
     stays (next b k e) (next_mmc1 b m k e) cs j (λ n q o. h (suc n) (omega arith) (omega arith) (later o)) ∙ set_mode b m k e l.bits l.done

@@ -8,7 +8,6 @@ use Rattle.cartridge.specs.declared.Cartridge.{Cartridge}
 use Rattle.mmc3.specs.Clock.{clocked}
 use Rattle.mmc3.specs.Write.{move_of, applied}
 use Rattle.mmc3.specs.declared.Mmc3 as mmc3-type
-use Rattle.mmc3.specs.declared.Move.{Move}
 use Rattle.boards.specs.Write.{landing}
 use Rattle.boards.specs.Runs.{Lent, next, Call, call, after}
 use Rattle.boards.specs.declared.Board.{Board}
@@ -39,7 +38,7 @@ plays_next p l e = plays_after p (call l e ∷ [])
 abbrev pub mmc3_after : Mode → Deed → mmc3-type.Mmc3 → mmc3-type.Mmc3
 mmc3_after mode rests m = m
 mmc3_after mode (writes k) m = applied mode k m
-mmc3_after mode clocks m = (clocked mode m).mmc3
+mmc3_after mode clocks m = (clocked mode m).left
 
 next_mmc3 : {mode : Mode} {b : Board} → Plays mode b → (l : Lent) (e : Event) → (next b l e).registers.mmc3 ≡ mmc3_after mode (deed b l e) b.registers.mmc3
 unfolding next deed
@@ -49,7 +48,7 @@ next_mmc3 {mode} {b} p l (Write a v) =
     ∙ alike (λ (x : Board) (d : Deed). x.registers.mmc3 ≡ mmc3_after mode d b.registers.mmc3) (accepts b l a)
     (moved_mmc3 b p.is_mmc3 v a ∙ ap (λ (m : Mode). applied m (move_of v a) b.registers.mmc3) p.in_mode) refl
 next_mmc3 {mode} {b} p l Clock =
-    tick_mmc3 b p.is_in_range p.is_mmc3 ∙ ap (λ (m : Mode). (clocked m b.registers.mmc3).mmc3) p.in_mode
+    tick_mmc3 b p.is_in_range p.is_mmc3 ∙ ap (λ (m : Mode). (clocked m b.registers.mmc3).left) p.in_mode
 
 -- what holds at the start, or is made by the deed at a position, and is kept by each safe deed, holds at the end if all deeds, or all after that one, are safe
 module _ {mode : Mode} (P : mmc3-type.Mmc3 → Type 0) (Safe : Deed → Type 0) (keep : (d : Deed) (m : mmc3-type.Mmc3) → Safe d → P m → P (mmc3_after mode d m)) where
@@ -68,6 +67,3 @@ module _ {mode : Mode} (P : mmc3-type.Mmc3 → Type 0) (Safe : Deed → Type 0) 
       (λ j. s (suc j) (omega arith))
   made k some make b p (call l e ∷ cs) (suc i) d s =
       made k some make (next b l e) (plays_next p l e) cs i d (λ j h. s (suc j) (omega arith))
-
-pub a_write : (k : Move) → rests ≡ writes k → ⊥
-a_write k e = let z : ◌≡◌ {A = ℕ} 0 1 = cc in omega arith

@@ -66,7 +66,7 @@ others_stay b k (call l e ∷ cs) =
 
 module _ {mode : Mode} {s : List ℕ} where
   abbrev loaded : History mode s → Board
-  loaded x = (load_with mode s x.prg x.chr).board
+  loaded x = (load_with mode s x.prg x.chr).left
 
   -- so from a load on they are as it left them
   others_are : (x : History mode s) → (reached x).cart.mapper ≡ Mmc1 → (w : LentWrite) (cs : List Call)

@@ -190,7 +190,7 @@ run =
     }
 
 abbrev fresh : Mode → Board
-fresh mode = (load_of mode mmc1_image).board
+fresh mode = (load_of mode mmc1_image).left
 
 is_serial : {w : LentWrite} {b : Board} → ltb w.address 0x8000 ≡ false → is_signed w.byte ≡ false → accepts b w.lent w.address ≡ true → IsSerialWrite w b
 is_serial {w} a v e = record { to_8000_ffff = ltb-false w.address 0x8000 a; bit_7_clear = v; accepted = e }

@@ -1,26 +1,25 @@
 -- The level of the line, as an author asks of it: low at load, in house mode and on other boards; a clock raises it, an acknowledging write lowers it, and nothing else
 -- moves it. Assumes nothing.
+use Rattle.std.specs.Prelude.{Ok}
 use Prim.Native.Nat.{ℕ}
 use mathlib.Core.Path.{◌≡◌, refl, sym, ap, ◌∙◌}
-use mathlib.Core.Bool.{Bool, true, false, false≢true, ◌&&◌, ◌||◌}
+use mathlib.Core.Bool.{Bool, true, false, false≢true, ◌||◌}
 use mathlib.Core.List.{List}
-use lib.Dec.{eqb}
-use Rattle.rules.proofs.Bools.{and_left}
+use native.Mathlib.Omega.{arith}
 use Rattle.common.specs.declared.Mode.{Mode}
 use Rattle.common.specs.declared.Mode.TheVariants.{House, Board as OnBoard}
 use Rattle.cartridge.specs.Mappers.{is_mapper}
 use Rattle.cartridge.specs.declared.MapperType.TheVariants.{Mmc3}
-use Rattle.mmc3.specs.Clock.{with_irq, line_after, next_counter, board_clock, clock_in, clocked}
+use Rattle.mmc3.specs.Clock.{with_irq, line_after, board_clock, clock_in, clocked}
 use Rattle.mmc3.specs.Write.{applied}
 use Rattle.mmc3.specs.declared.Irq.{Irq}
 use Rattle.mmc3.specs.declared.Mmc3 as mmc3-type
 use Rattle.mmc3.specs.declared.Move.{Move}
-use Rattle.mmc3.specs.declared.Move.TheVariants.{Nothing, Select, Data, Screens, Protect, Latch, Reload, Enable, Disable}
+use Rattle.mmc3.specs.declared.Move.TheVariants.{Disable}
 use Rattle.boards.specs.Range.{in_range}
 use Rattle.boards.specs.Clock.{yes_no, clock}
 use Rattle.boards.specs.Runs.{Call, after}
 use Rattle.boards.specs.declared.Board.{Board}
-use Rattle.boards.specs.declared.ClockAnswer.TheVariants.{Yes}
 use Rattle.laws.specs.Calls.{load_with, LentWrite, wrote}
 use Rattle.laws.specs.Clocks.{Plays, is_yes, line_up}
 use Rattle.laws.specs.Deeds.{Deed, NoneAmong}
@@ -34,7 +33,7 @@ use Rattle.laws.proofs.OneImage.{wrote_one}
 use Rattle.laws.proofs.PublicClocks.{itself, plays_on, plays_ticked, yes_no_lem, level_said, level_after}
 
 -- "The line is low at load"
-pub low_at_load : (mode : Mode) (s prg chr : List ℕ) → line_up (load_with mode s prg chr).board ≡ false
+pub low_at_load : (mode : Mode) (s prg chr : List ℕ) → line_up (load_with mode s prg chr).left ≡ false
 low_at_load mode s prg chr = (idle_at_load mode s prg chr).low
 
 -- "and always low in house mode"
@@ -49,15 +48,7 @@ low_on_other_boards b e h = (idle_on_other_boards b e h).low
 by_move : (P : Bool → Bool → Type 0) (mode : Mode) (k : Move) (m : mmc3-type.Mmc3) → P m.line m.irq.enabled → P m.line true → (k ≡ Disable → P false false)
     → P (applied mode k m).line (applied mode k m).irq.enabled
 unfolding applied with_irq
-by_move P mode Nothing m left set cleared = left
-by_move P mode (Select v) m left set cleared = left
-by_move P mode (Data v) m left set cleared = left
-by_move P mode (Screens v) m left set cleared = left
-by_move P mode (Protect v) m left set cleared = left
-by_move P mode (Latch v) m left set cleared = left
-by_move P mode Reload m left set cleared = left
-by_move P mode Enable m left set cleared = set
-by_move P mode Disable m left set cleared = cleared refl
+by_move P mode k m left set cleared = grind arith
 
 -- of the writes "an even write to E000-FFFF" alone touches it
 pub other_moves_leave_it : (mode : Mode) (k : Move) (m : mmc3-type.Mmc3) → (k ≡ Disable → ⊥) → (applied mode k m).line ≡ m.line
@@ -82,17 +73,17 @@ only_a_clock_raises mode b p cs none low = stays (λ (m : mmc3-type.Mmc3). m.lin
 pub the_level_never_falls : (b : Board) → Plays OnBoard b → (cs : List Call) → NoneAmong b cs (writes Disable) → line_up b ≡ true → line_up (after b cs) ≡ true
 the_level_never_falls b p cs none up = stays (λ (m : mmc3-type.Mmc3). m.line ≡ true) (λ (d : Deed). d ≡ writes Disable → ⊥) up_stays b p up cs none
 
-said_up : (b : Board) → Plays OnBoard b → line_up b ≡ true → (clock b).answer ≡ Yes
+said_up : (b : Board) → Plays OnBoard b → line_up b ≡ true → (clock b).answer ≡ Ok true
 unfolding yes_no
 said_up b p up = level_said p ∙ ap yes_no (level_after p ∙ ap (λ (t : Bool). t || (board_clock b.registers.mmc3.irq).answer) up)
 
 -- so once a clock has answered yes every later one does, until such a write
-pub the_answer_never_falls : (b : Board) → Plays OnBoard b → (clock b).answer ≡ Yes → (cs : List Call) → NoneAmong (clock b).board cs (writes Disable)
-    → (clock (after (clock b).board cs)).answer ≡ Yes
+pub the_answer_never_falls : (b : Board) → Plays OnBoard b → (clock b).answer ≡ Ok true → (cs : List Call) → NoneAmong (clock b).left cs (writes Disable)
+    → (clock (after (clock b).left cs)).answer ≡ Ok true
 the_answer_never_falls b p said cs none =
-    let up = sym (yes_no_lem (line_up (clock b).board)) ∙ ap is_yes (sym (level_said p) ∙ said) in
+    let up = sym (yes_no_lem (line_up (clock b).left)) ∙ ap is_yes (sym (level_said p) ∙ said) in
     let q = plays_ticked p 1 in
-    said_up (after (clock b).board cs) (plays_after q cs) (the_level_never_falls (clock b).board q cs none up)
+    said_up (after (clock b).left cs) (plays_after q cs) (the_level_never_falls (clock b).left q cs none up)
 
 -- "an even write to E000-FFFF, which lowers it and disables"
 pub lowered_and_disabled : (mode : Mode) (b : Board) → Plays mode b → (w : LentWrite) → Acknowledges b w
@@ -113,14 +104,10 @@ then_the_unit_alone b p w a cs none =
 abbrev EnabledIfUp : mmc3-type.Mmc3 → Type 0
 EnabledIfUp m = m.line ≡ true → m.irq.enabled ≡ true
 
-or_either : {A : Type 0} (a b : Bool) → (a ≡ true → A) → (b ≡ true → A) → (a || b) ≡ true → A
-or_either true b f g h = f refl
-or_either false b f g h = g h
-
-clock_enabled : (mode : Mode) (m : mmc3-type.Mmc3) → EnabledIfUp m → EnabledIfUp (clocked mode m).mmc3
+clock_enabled : (mode : Mode) (m : mmc3-type.Mmc3) → EnabledIfUp m → EnabledIfUp (clocked mode m).left
 unfolding clocked with_irq line_after clock_in board_clock
 clock_enabled House m h up = clock_keeps (λ (u : Irq). u.enabled ≡ true) House m.irq (λ c. h up)
-clock_enabled OnBoard m h up = or_either m.line (m.irq.enabled && eqb (next_counter m.irq) 0) h (λ e. and_left m.irq.enabled (eqb (next_counter m.irq) 0) e) up
+clock_enabled OnBoard m h up = grind arith
 
 stays_enabled : (mode : Mode) (d : Deed) (m : mmc3-type.Mmc3) → Unit {0} → EnabledIfUp m → EnabledIfUp (mmc3_after mode d m)
 stays_enabled mode rests m any h = h

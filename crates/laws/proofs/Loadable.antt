@@ -1,19 +1,20 @@
 -- A cartridge in range is left by the load of an image with its fields: no refusal is due, and its header's bytes lead back to each field. So a cartridge is in
 -- range exactly when some image of bytes leaves it. Assumes nothing.
+use Rattle.std.specs.Prelude.{Ok}
 use Prim.Native.Nat.{ℕ, ◌+◌, ◌-◌, ◌*◌, ◌/◌, ◌%◌, ◌≤◌, ◌<◌}
 use mathlib.Core.Path.{◌≡◌, refl, sym, ap, ap₂, ◌∙◌, subst}
 use mathlib.Core.Logic.{◌↔◌}
-use mathlib.Core.Bool.{Bool, true, false, false≢true, cond, not, ◌&&◌, ◌||◌}
+use mathlib.Core.Bool.{Bool, true, false, cond, not, ◌&&◌, ◌||◌}
 use mathlib.Core.List.{List}
 use native.Mathlib.Omega.{arith}
 use lib.Dec.{ltb, eqb}
 use lib.ListN.{length, length-replicate}
-use borrow.Author.Tests.{eqb-false, le-ltb, ne_eqb}
+use borrow.Author.Tests.{le-ltb, ne_eqb}
 use Rattle.common.specs.Answers.{is_headers, among}
 use Rattle.common.specs.declared.Mode.{Mode}
 use Rattle.common.specs.declared.Mode.TheVariants.{House, Board as OnBoard}
 use Rattle.common.specs.declared.Mirroring.{Mirroring}
-use Rattle.common.specs.declared.Mirroring.TheVariants.{Horizontal, Vertical, SingleScreenUpper, SingleScreenLower}
+use Rattle.common.specs.declared.Mirroring.TheVariants.{Horizontal, Vertical}
 use Rattle.memory.proofs.Bytes.{Bytes, at_each_place, zeros}
 use Rattle.cartridge.specs.Header.{is_ines, header_of, mirroring_of, is_special}
 use Rattle.cartridge.specs.Nes2.{is_nes2_in, extended, mapper_in, prg_in, chr_in, has_submapper, has_exponent, is_shifts, says_otherwise, nes2_not_taken, has_prg_ram}
@@ -22,55 +23,35 @@ use Rattle.cartridge.specs.Mappers.{mapper_number, mapper_type}
 use Rattle.cartridge.specs.declared.Cartridge.{Cartridge}
 use Rattle.cartridge.specs.declared.Header.{Header}
 use Rattle.cartridge.specs.declared.MapperType.{MapperType}
-use Rattle.cartridge.specs.declared.MapperType.TheVariants.{Nrom, Mmc1, Uxrom, Cnrom, Mmc3}
-use Rattle.cartridge.specs.declared.Loaded.TheVariants.{Accepted}
-use Rattle.cartridge.specs.declared.Verdict.{Verdict}
-use Rattle.cartridge.specs.declared.Verdict.TheVariants.{Take, Refuse}
+use Rattle.cartridge.specs.Refusals.{Verdict}
 use Rattle.cartridge.proofs.Mappers.{by_number}
 use Rattle.cartridge.proofs.Range.{Fields, fields, board_counts_small}
-use Rattle.cartridge.specs.Steps.{first_of}
-use Rattle.laws.proofs.Ranges.{could_load_lem}
+use Rattle.std.proofs.lemmas.Bool.Decides.{nat_tests}
+use Rattle.laws.proofs.Ranges.{first_of, could_load_lem}
 use Rattle.laws.specs.Loadable.{byte6, byte7, byte9, shifts, image_for, Leaves}
-
-or_left : (x y : Bool) → (x || y) ≡ false → x ≡ false
-or_left true y e = e
-or_left false y e = refl
 
 some_prg : (mapper prg : ℕ) → bad_prg mapper prg ≡ false → 1 ≤ prg
 unfolding bad_prg
-some_prg mapper prg e = let n : prg ≡ 0 → ⊥ = eqb-false prg 0 (or_left (eqb prg 0) _ e) in omega arith
+some_prg mapper prg e = grind (arith, nat_tests)
 
 -- bytes 6 and 7 lead back to the mapper, the mirroring and the mark
 bit_small : (m : Mirroring) → among 0 1 0 0 m < 2
-bit_small Horizontal = omega arith
-bit_small Vertical = omega arith
-bit_small SingleScreenUpper = omega arith
-bit_small SingleScreenLower = omega arith
+bit_small m = grind arith
 
 bit_back : (m : Mirroring) → is_headers m ≡ true → cond (eqb (among 0 1 0 0 m) 1) Vertical Horizontal ≡ m
-bit_back Horizontal h = refl
-bit_back Vertical h = refl
-bit_back SingleScreenUpper h = absurd (false≢true h)
-bit_back SingleScreenLower h = absurd (false≢true h)
+bit_back m h = grind arith
 
 mark_back : (t : Bool) → eqb (cond t 8 0 / 4 % 4) 2 ≡ t
-mark_back true = refl
-mark_back false = refl
+mark_back t = grind arith
 
 mark_low : (t : Bool) → cond t 8 0 / 16 ≡ 0
-mark_low true = refl
-mark_low false = refl
+mark_low t = grind arith
 
 mark_small : (t : Bool) → cond t 8 0 < 256
-mark_small true = omega arith
-mark_small false = omega arith
+mark_small t = grind arith
 
 number_small : (k : MapperType) → mapper_number k ≤ 4
-number_small Nrom = omega arith
-number_small Mmc1 = omega arith
-number_small Uxrom = omega arith
-number_small Cnrom = omega arith
-number_small Mmc3 = omega arith
+number_small k = grind arith
 
 -- byte 9 leads back to both counts, and neither nibble is 15
 low_nibble : (p c : ℕ) → p < 4096 → (p / 256 + c / 256 * 16) % 16 ≡ p / 256
@@ -81,27 +62,19 @@ high_nibble p c h = omega (arith, h)
 
 shifts_taken : (t : Bool) → is_shifts (shifts t) ≡ true
 unfolding is_shifts
-shifts_taken true = refl
-shifts_taken false = refl
+shifts_taken t = grind arith
 
 shifts_back : (t : Bool) → not (eqb (shifts t) 0) ≡ t
-shifts_back true = refl
-shifts_back false = refl
+shifts_back t = grind arith
 
 shifts_small : (t : Bool) → shifts t < 256
-shifts_small true = omega arith
-shifts_small false = omega arith
+shifts_small t = grind arith
 
 said : (chr : ℕ) → says_otherwise chr (shifts (eqb chr 0)) ≡ false
 unfolding says_otherwise
-said chr = go (eqb chr 0)
-  where
-    go : (t : Bool) → ((t && eqb (shifts t) 0) || (not t && not (eqb (shifts t) 0))) ≡ false
-    go true = refl
-    go false = refl
+said chr = grind arith
 
-none_due : (b9 b3 b4 b5 b16 b6 b7 b8 : Bool) → b9 ≡ false → b3 ≡ false → b4 ≡ false → b5 ≡ false → b16 ≡ false → b6 ≡ false → b7 ≡ false → b8 ≡ false → first_of b9 b3 b4 b5 b16 b6 b7 b8 ≡ Take
-unfolding first_of
+none_due : (b9 b3 b4 b5 b16 b6 b7 b8 : Bool) → b9 ≡ false → b3 ≡ false → b4 ≡ false → b5 ≡ false → b16 ≡ false → b6 ≡ false → b7 ≡ false → b8 ≡ false → first_of b9 b3 b4 b5 b16 b6 b7 b8 ≡ Ok tt
 none_due b9 b3 b4 b5 b16 b6 b7 b8 e9 e3 e4 e5 e16 e6 e7 e8 = rw (e9, e3, e4, e5, e16, e6, e7, e8) refl
 
 module _ (c : Cartridge) (f : Fields c) where
@@ -197,8 +170,8 @@ module _ (c : Cartridge) (f : Fields c) where
   its_bit : byte6 c % 2 ≡ among 0 1 0 0 c.mirroring
   its_bit = let b = bit_small c.mirroring in omega arith
 
-  taken : verdict (image_for c) c.mode 8192 8192 ≡ Take
-  unfolding verdict first_of rams_fit is_ines header_of
+  taken : verdict (image_for c) c.mode 8192 8192 ≡ Ok tt
+  unfolding verdict rams_fit is_ines header_of
   taken =
       none_due (not (rams_fit 8192 8192)) (ltb (length (image_for c)) 16400 || not (is_ines (image_for c))) (ltb 4 (mapper_in c.mode h)) (is_special h) (nes2_not_taken c.mode h) (bad_prg (mapper_in c.mode h) (prg_in c.mode h)) (ltb (length (image_for c)) (needed (prg_in c.mode h) (chr_in c.mode h))) (no_powers c.mode (prg_in c.mode h) (chr_in c.mode h))
       refl
@@ -225,8 +198,7 @@ module _ (c : Cartridge) (f : Fields c) where
       }
 
 nine_small : (t : Bool) (p c : ℕ) → p < cond t 2049 256 → c < cond t 2049 256 → p / 256 + c / 256 * 16 < 256
-nine_small true p c l m = omega (arith, l, m)
-nine_small false p c l m = omega (arith, l, m)
+nine_small t p c l m = grind arith
 
 -- the bytes of its image
 its_bytes : (c : Cartridge) → Fields c → Bytes (image_for c)
@@ -268,10 +240,9 @@ every_cartridge_in_range_is_left c h =
     let f = fields c h in
     record { are_bytes = at_each_place (image_for c) (its_bytes c f); accepted = ap₂ loaded_as (taken c f) (back c f) }
 
-left : (v : Verdict) (x c : Cartridge) → loaded_as v x ≡ Accepted c → (v ≡ Take) × (x ≡ c)
+left : (v : Verdict) (x c : Cartridge) → loaded_as v x ≡ Ok c → (v ≡ Ok tt) × (x ≡ c)
 unfolding loaded_as
-left Take x c e = (refl, cc)
-left (Refuse why) x c e = absurd (let z : ◌≡◌ {A = ℕ} 0 1 = cc in omega arith)
+left v x c e = grind arith
 
 -- "as a load could leave them", both ways
 pub in_range_exactly_if_some_load_leaves_it : (c : Cartridge) → (could_load c ≡ true) ↔ ((s : List ℕ) × Leaves s c)

@@ -1,5 +1,6 @@
 -- The NES 2.0 mark changes nothing in house mode, nor the low nibble of byte 7 in board mode where the mark is the same: a load asks of that nibble only
 -- whether the image is read as NES 2.0, a call asks it of the mark for its range alone, and looks at no byte of the header. Assumes nothing.
+use Rattle.std.specs.Prelude.{Ok, Err}
 use Prim.Native.Nat.{ℕ, zero, suc, ◌+◌, ◌/◌, ◌<◌}
 use mathlib.Core.Path.{◌≡◌, refl, ap, ◌∙◌, subst⁻¹}
 use mathlib.Core.Bool.{Bool, true, false, cond, ◌&&◌}
@@ -18,17 +19,13 @@ use Rattle.cartridge.specs.Nes2.{is_nes2_in, extended, mapper_in, prg_in, chr_in
 use Rattle.cartridge.specs.Load.{verdict, cartridge_of, loaded_as, ram_after, counts_end, prg_ram_fits, could_load, prg_total, prg_rom, chr_rom, chr_total}
 use Rattle.cartridge.specs.declared.Cartridge.{Cartridge}
 use Rattle.cartridge.specs.declared.MapperType.{MapperType}
-use Rattle.cartridge.specs.declared.MapperType.TheVariants.{Nrom, Mmc1, Uxrom, Cnrom, Mmc3}
-use Rattle.cartridge.specs.declared.Verdict.{Verdict}
-use Rattle.cartridge.specs.declared.Verdict.TheVariants.{Take, Refuse}
+use Rattle.cartridge.specs.Refusals.{Verdict}
 use Rattle.places.specs.Places.{in_prg, in_chr, byte_of, byte_at}
 use Rattle.places.specs.Windows.{Window, lands_in}
-use Rattle.places.specs.Windows.Window.{Prg16K, Prg8K, Chr8K, Chr4K, Chr1K, PrgRam, ChrRam, Empty, Refused as NoWindow}
 use Rattle.places.specs.declared.Place.{Place}
 use Rattle.places.specs.declared.Place.TheVariants.{Prg, Chr, PrgRam as InPrgRam, ChrRam as InChrRam, Nowhere}
-use Rattle.places.specs.declared.Landing.{Landing}
-use Rattle.places.specs.declared.Landing.TheVariants.{At, Refused}
-use Rattle.boards.specs.Start.{start_of, loaded_board}
+use Rattle.places.specs.Places.{Landing}
+use Rattle.boards.specs.Start.{start_of, loaded_board, load_answer, board_of}
 use Rattle.boards.specs.Range.{mirroring_fits, in_range, is_loaded}
 use Rattle.boards.specs.Read.{read_window_on, read_landing}
 use Rattle.boards.specs.Read as reads
@@ -39,20 +36,18 @@ use Rattle.boards.specs.declared.Board.{Board}
 use Rattle.boards.specs.declared.Event.{Event}
 use Rattle.boards.specs.declared.Event.TheVariants.{Read, Write, Clock}
 use Rattle.boards.specs.declared.Registers.{Registers}
-use Rattle.boards.specs.declared.Clocked.{Clocked}
-use Rattle.boards.specs.declared.ClockAnswer.TheVariants.{Refused as NotClocked}
-use Rattle.boards.specs.declared.LoadAnswer.TheVariants.{Accepted}
-use Rattle.boards.specs.declared.Written.{Written}
+use Rattle.boards.specs.Clock.{Clocked}
+use Rattle.boards.specs.Write.{Written}
 use Rattle.laws.specs.Mark.{marked, cart_marked, with_byte, lent_with, call_with, ReadAlike, SameLoad, SameCall, SameRun}
 use Rattle.laws.proofs.Ranges.{next_keeps_cart}
 use Rattle.laws.proofs.Opened.{opened}
 
 -- what a write or a clock leaves, with this mark
 abbrev written : Bool → Written → Written
-written mark w = record { board = marked mark w.board; answer = w.answer }
+written mark w = record { left = marked mark w.left; answer = w.answer }
 
 abbrev clocked : Bool → Clocked → Clocked
-clocked mark t = record { board = marked mark t.board; answer = t.answer }
+clocked mark t = record { left = marked mark t.left; answer = t.answer }
 
 -- a cartridge with this mode and mark
 abbrev cart_in : Mode → Bool → Cartridge → Cartridge
@@ -63,28 +58,11 @@ cart_in mode mark c =
 windows_alike : (mode : Mode) (k : MapperType) (x y : Bool) (r : Registers) (c : Cartridge) (a : ℕ)
     → (read_window_on k r (cart_in mode x c) a ≡ read_window_on k r (cart_in mode y c) a) × (write_window_on k r (cart_in mode x c) a ≡ write_window_on k r (cart_in mode y c) a)
 unfolding opened
-windows_alike House Nrom x y r c a = (refl, refl)
-windows_alike House Mmc1 x y r c a = (refl, refl)
-windows_alike House Uxrom x y r c a = (refl, refl)
-windows_alike House Cnrom x y r c a = (refl, refl)
-windows_alike House Mmc3 x y r c a = (refl, refl)
-windows_alike OnBoard Nrom x y r c a = (refl, refl)
-windows_alike OnBoard Mmc1 x y r c a = (refl, refl)
-windows_alike OnBoard Uxrom x y r c a = (refl, refl)
-windows_alike OnBoard Cnrom x y r c a = (refl, refl)
-windows_alike OnBoard Mmc3 x y r c a = (refl, refl)
+windows_alike mode k x y r c a = grind arith
 
 lands_alike : (x : Bool) (c : Cartridge) (w : Window) (a : ℕ) → lands_in (cart_marked x c) w a ≡ lands_in c w a
 unfolding lands_in in_prg in_chr chr_total
-lands_alike x c (Prg16K n) a = refl
-lands_alike x c (Prg8K n) a = refl
-lands_alike x c (Chr8K n) a = refl
-lands_alike x c (Chr4K n) a = refl
-lands_alike x c (Chr1K n) a = refl
-lands_alike x c PrgRam a = refl
-lands_alike x c ChrRam a = refl
-lands_alike x c Empty a = refl
-lands_alike x c (NoWindow why) a = refl
+lands_alike x c w a = grind arith
 
 -- what follows a place past byte i does not see it
 drop_set : (k i : ℕ) (s : List ℕ) (v : ℕ) → i < k → drop k (set s i v) ≡ drop k s
@@ -104,8 +82,8 @@ of_alike x i v h c Nowhere image prg chr = refl
 
 byte_alike : (x : Bool) (i v : ℕ) → i < 16 → (c : Cartridge) (l : Landing) (image prg chr : List ℕ) → byte_at (cart_marked x c) l (with_byte i v image) prg chr ≡ byte_at c l image prg chr
 unfolding byte_at
-byte_alike x i v h c (At p) image prg chr = of_alike x i v h c p image prg chr
-byte_alike x i v h c (Refused why) image prg chr = refl
+byte_alike x i v h c (Ok p) image prg chr = of_alike x i v h c p image prg chr
+byte_alike x i v h c (Err why) image prg chr = refl
 
 -- one board and its likeness, both read as NES 2.0 or neither
 module _ (x : Bool) (i u : ℕ) (small : i < 16) (b : Board) (same : ReadAlike x b) where
@@ -141,14 +119,14 @@ module _ (x : Bool) (i u : ℕ) (small : i < 16) (b : Board) (same : ReadAlike x
 
   leaves : (p : Landing) (v a : ℕ) → written_as (marked x b) p v a ≡ written x (written_as b p v a)
   unfolding written_as
-  leaves (Refused why) v a = refl
-  leaves (At p) v a = moves_alike v a
+  leaves (Err why) v a = refl
+  leaves (Ok p) v a = moves_alike v a
 
   ticks_alike : clock (marked x b) ≡ clocked x (clock b)
   unfolding clock accepted_clock
   ticks_alike = simp range_alike (go (in_range b))
     where
-      go : (t : Bool) → cond t (accepted_clock (marked x b)) (record { board = marked x b; answer = NotClocked StateOutOfRange }) ≡ clocked x (cond t (accepted_clock b) (record { board = b; answer = NotClocked StateOutOfRange }))
+      go : (t : Bool) → cond t (accepted_clock (marked x b)) (record { left = marked x b; answer = Err StateOutOfRange }) ≡ clocked x (cond t (accepted_clock b) (record { left = b; answer = Err StateOutOfRange }))
       go true = refl
       go false = refl
 
@@ -162,9 +140,9 @@ module _ (x : Bool) (i u : ℕ) (small : i < 16) (b : Board) (same : ReadAlike x
   unfolding next
   next_alike l (Read a) = refl
   next_alike l (Write a v) =
-      ap (λ (p : Landing). (written_as (marked x b) p v a).board) (lands l a)
-      ∙ ap (λ (w : Written). w.board) (leaves (landing b l.image l.prg l.chr a) v a)
-  next_alike l Clock = ap (λ (t : Clocked). t.board) ticks_alike
+      ap (λ (p : Landing). (written_as (marked x b) p v a).left) (lands l a)
+      ∙ ap (λ (w : Written). w.left) (leaves (landing b l.image l.prg l.chr a) v a)
+  next_alike l Clock = ap (λ (t : Clocked). t.left) ticks_alike
 
   left_alike : (l : Lent) (e : Event) → left (marked x b) (lent_with i u l) e ≡ lent_with i u (left b l e)
   unfolding left
@@ -225,7 +203,7 @@ module _ (s : List ℕ) (v : ℕ) (h : v / 16 ≡ byte s 7 / 16) (mode : Mode) (
 
 -- a load
 pub mark_changes_no_load : (mode : Mode) (s prg chr : List ℕ) (v : ℕ) → v / 16 ≡ byte s 7 / 16 → extended mode (header_of (with_byte 7 v s)) ≡ extended mode (header_of s) → SameLoad mode s prg chr v
-unfolding loaded_board loaded_as
+unfolding loaded_board load_answer board_of loaded_as
 mark_changes_no_load mode s prg chr v h e =
     let w = same_verdict s v h mode e (length prg) (length chr) in
     record {
@@ -235,14 +213,14 @@ mark_changes_no_load mode s prg chr v h e =
       the_chr_ram = ap (λ (x : Verdict). ram_after x chr) w;
     }
   where
-    answers_so : (w : Verdict) → (loaded_board (loaded_as w (cartridge_of (header_of (set s 7 v)) mode (length (set s 7 v))))).answer ≡ (loaded_board (loaded_as w (cartridge_of (header_of s) mode (length s)))).answer
-    answers_so Take = refl
-    answers_so (Refuse why) = refl
+    answers_so : (w : Verdict) → load_answer (loaded_board (loaded_as w (cartridge_of (header_of (set s 7 v)) mode (length (set s 7 v))))) ≡ load_answer (loaded_board (loaded_as w (cartridge_of (header_of s) mode (length s))))
+    answers_so (Ok tt) = refl
+    answers_so (Err why) = refl
 
-    boards_so : (w : Verdict) → (loaded_board (loaded_as w (cartridge_of (header_of s) mode (length s)))).answer ≡ Accepted
-        → (loaded_board (loaded_as w (cartridge_of (header_of (set s 7 v)) mode (length (set s 7 v))))).board ≡ marked (is_nes2 (header_of (set s 7 v))) (loaded_board (loaded_as w (cartridge_of (header_of s) mode (length s)))).board
-    boards_so Take a = same_start s v h mode e
-    boards_so (Refuse why) a = absurd (let z : ◌≡◌ {A = ℕ} 0 1 = cc in omega arith)
+    boards_so : (w : Verdict) → load_answer (loaded_board (loaded_as w (cartridge_of (header_of s) mode (length s)))) ≡ Ok tt
+        → board_of (loaded_board (loaded_as w (cartridge_of (header_of (set s 7 v)) mode (length (set s 7 v))))) ≡ marked (is_nes2 (header_of (set s 7 v))) (board_of (loaded_board (loaded_as w (cartridge_of (header_of s) mode (length s)))))
+    boards_so (Ok tt) a = same_start s v h mode e
+    boards_so (Err why) a = cc
 
 -- in house mode no image is read as NES 2.0
 pub mark_changes_no_house_load : (s prg chr : List ℕ) (v : ℕ) → v / 16 ≡ byte s 7 / 16 → SameLoad House s prg chr v

@@ -1,5 +1,6 @@
 -- What an MMC1 board in range answers, stores and becomes is made of what was loaded, its mirroring and its MMC1 registers: two that agree in these answer alike
 -- for ever. Assumes nothing.
+use Rattle.std.specs.Prelude.{Ok, Err, false}
 use Prim.Native.Nat.{ℕ}
 use mathlib.Core.Path.{◌≡◌, refl, sym, ap, ap₂, ◌∙◌}
 use mathlib.Core.Bool.{true}
@@ -13,8 +14,7 @@ use Rattle.cartridge.specs.declared.MapperType.{MapperType}
 use Rattle.cartridge.specs.declared.MapperType.TheVariants.{Mmc1}
 use Rattle.places.specs.Places.{byte_at, answer_at, stored_prg, stored_chr}
 use Rattle.places.specs.Windows.{lands_in}
-use Rattle.places.specs.declared.Landing.{Landing}
-use Rattle.places.specs.declared.Landing.TheVariants.{At, Refused}
+use Rattle.places.specs.Places.{Landing}
 use Rattle.mmc1.specs.Read as mmc1
 use Rattle.mmc1.specs.Write.{applied, mirrors_of, written}
 use Rattle.mmc1.specs.declared.Mmc1 as mmc1-type
@@ -28,9 +28,7 @@ use Rattle.boards.specs.declared.Board.{Board}
 use Rattle.boards.specs.declared.Event.{Event}
 use Rattle.boards.specs.declared.Event.TheVariants.{Read, Write, Clock}
 use Rattle.boards.specs.declared.Answer.TheVariants.{Read as toRead, Write as toWrite, Clock as toClock}
-use Rattle.boards.specs.declared.ClockAnswer.TheVariants.{No}
-use Rattle.boards.specs.declared.WriteAnswer.{WriteAnswer}
-use Rattle.boards.specs.declared.WriteAnswer.TheVariants.{Refused as NotWritten}
+use Rattle.boards.specs.Write.{WriteAnswer}
 use Rattle.laws.specs.Calls.{OneImage}
 use Rattle.laws.specs.Loads.{made}
 use Rattle.laws.specs.SettlesMmc1.{Agree}
@@ -49,23 +47,23 @@ module _ (b : Board) (is-mmc1 : b.cart.mapper ≡ Mmc1) where
   write_lands a = ap (λ (k : MapperType). lands_in b.cart (write_window_on k b.registers b.cart a) a) is-mmc1
 
 moved_answer : (b : Board) → b.cart.mapper ≡ Mmc1 → (v a : ℕ)
-    → (accepted_write b v a).answer ≡ notice (against b) (written b.cart.mode b.registers.mmc1 v a).mirrors
+    → (accepted_write b v a).answer ≡ notice (against b) (written b.cart.mode b.registers.mmc1 v a).answer
 unfolding accepted_write turned moved
-moved_answer b e v a = ap (λ (k : MapperType). notice (against b) (moved k b.cart.mode b.registers v a).mirrors) e
+moved_answer b e v a = ap (λ (k : MapperType). notice (against b) (moved k b.cart.mode b.registers v a).answer) e
 
 -- a refusal, or the answer of the move
 said : Landing → WriteAnswer → WriteAnswer
-said (Refused why) w = NotWritten why
-said (At p) w = w
+said (Err why) w = Err why
+said (Ok p) w = w
 
 said_is : (b : Board) (p : Landing) (v a : ℕ) → (written_as b p v a).answer ≡ said p (accepted_write b v a).answer
 unfolding written_as said
-said_is b (Refused why) v a = refl
-said_is b (At p) v a = refl
+said_is b (Err why) v a = refl
+said_is b (Ok p) v a = refl
 
-clock_answer : (b : Board) → in_range b ≡ true → b.cart.mapper ≡ Mmc1 → (clock b).answer ≡ No
+clock_answer : (b : Board) → in_range b ≡ true → b.cart.mapper ≡ Mmc1 → (clock b).answer ≡ Ok false
 unfolding clock accepted_clock yes_no ticked is_mapper
-clock_answer b ok e = rw ok (ap (λ (k : MapperType). yes_no (ticked k b.cart.mode b.registers).yes) e)
+clock_answer b ok e = rw ok (ap (λ (k : MapperType). yes_no (ticked k b.cart.mode b.registers).answer) e)
 
 -- two boards that agree
 pub record Alike (b d : Board) : Type 0 where
@@ -106,7 +104,7 @@ module _ {b d : Board} (r : Alike b d) where
       (said_is b (landing b l.image l.prg l.chr a) v a
       ∙ ap₂ said (landing_alike l a)
       (moved_answer b r.one.mapper v a
-      ∙ (λ i. notice (against_in (cart i).mode (cart i).mirroring (r.agree.mirroring i)) (written (cart i).mode (r.agree.mmc1 i) v a).mirrors)
+      ∙ (λ i. notice (against_in (cart i).mode (cart i).mirroring (r.agree.mirroring i)) (written (cart i).mode (r.agree.mmc1 i) v a).answer)
       ∙ sym (moved_answer d second_mmc1 v a))
       ∙ sym (said_is d (landing d l.image l.prg l.chr a) v a))
   answer_alike l Clock = ap toClock (clock_answer b r.one.first r.one.mapper ∙ sym (clock_answer d r.one.second second_mmc1))

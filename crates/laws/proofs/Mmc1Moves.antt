@@ -1,7 +1,7 @@
 -- On an MMC1 board an event leaves what its move makes, and two boards with one serial register make the same moves. Assumes nothing.
 use Prim.Native.Nat.{ℕ}
 use mathlib.Core.Path.{◌≡◌, refl, sym, ap, ap₂, ◌∙◌}
-use mathlib.Core.Bool.{Bool, true, false, cond, ◌&&◌}
+use mathlib.Core.Bool.{Bool, true, cond, ◌&&◌}
 use native.Mathlib.Omega.{arith}
 use Rattle.rules.proofs.Bools.{either}
 use Rattle.common.specs.declared.Mode.{Mode}
@@ -12,14 +12,13 @@ use Rattle.cartridge.specs.declared.MapperType.{MapperType}
 use Rattle.cartridge.specs.declared.MapperType.TheVariants.{Mmc1}
 use Rattle.places.specs.Windows.{lands_in, house_chr, prg_ram_of, in_windows}
 use Rattle.places.specs.Windows.Window.{Empty}
-use Rattle.places.specs.declared.Landing.{Landing}
+use Rattle.places.specs.Places.{Landing}
 use Rattle.mmc1.specs.Read as mmc1
-use Rattle.mmc1.specs.Write.{move_of, reset, stored_chr0, stored_chr1, load, applied, mirrors_of, written}
+use Rattle.mmc1.specs.Write.{move_of, reset, load, applied, mirrors_of, written}
 use Rattle.mmc1.specs.declared.Mmc1 as mmc1-type
 use Rattle.mmc1.specs.declared.Move.{Move}
-use Rattle.mmc1.specs.declared.Move.TheVariants.{Nothing, Clear, Enter, Fill}
+use Rattle.mmc1.specs.declared.Move.TheVariants.{Nothing, Fill}
 use Rattle.mmc1.specs.declared.Register.{Register}
-use Rattle.mmc1.specs.declared.Register.TheVariants.{Control, Chr0, Chr1, Prg}
 use Rattle.boards.specs.Registers.{with_mmc1, moved, ticked}
 use Rattle.boards.specs.Range.{in_range}
 use Rattle.boards.specs.Write.{write_window_on, write_landing, next_mirroring, with_registers, turned, accepted_write, landing}
@@ -28,7 +27,7 @@ use Rattle.boards.specs.Runs.{Lent, next}
 use Rattle.boards.specs.declared.Board.{Board}
 use Rattle.boards.specs.declared.Event.{Event}
 use Rattle.boards.specs.declared.Event.TheVariants.{Read, Write, Clock}
-use Rattle.boards.specs.declared.Clocked.{Clocked}
+use Rattle.boards.specs.Clock.{Clocked}
 use Rattle.laws.specs.Calls.{OneImage}
 use Rattle.laws.specs.Loads.{is_accepted, accepts, made}
 use Rattle.laws.proofs.Cases.{alike}
@@ -45,13 +44,12 @@ board_after k m b =
 
 same_screens : (m : Mode) (b : Board) → b ≡ board_after Nothing m b
 unfolding next_mirroring applied mirrors_of
-same_screens House b = refl
-same_screens OnBoard b = refl
+same_screens m b = grind arith
 
 module _ (b : Board) (is-mmc1 : b.cart.mapper ≡ Mmc1) where
-  moved_is : (v a : ℕ) → (accepted_write b v a).board ≡ board_after (move_of b.registers.mmc1.serial v a) b.cart.mode b
+  moved_is : (v a : ℕ) → (accepted_write b v a).left ≡ board_after (move_of b.registers.mmc1.serial v a) b.cart.mode b
   unfolding accepted_write turned moved written
-  moved_is v a = ap (λ (k : MapperType). (turned b (moved k b.cart.mode b.registers v a)).board) is-mmc1
+  moved_is v a = ap (λ (k : MapperType). (turned b (moved k b.cart.mode b.registers v a)).left) is-mmc1
 
   pub own_move : (l : Lent) (a v : ℕ) → made b l (Write a v) ≡ cond (accepts b l a) (move_of b.registers.mmc1.serial v a) Nothing
   unfolding made is_mapper
@@ -66,79 +64,37 @@ module _ (b : Board) (is-mmc1 : b.cart.mapper ≡ Mmc1) where
       ∙ alike (λ (x : Board) (k : Move). x ≡ board_after k b.cart.mode b) (accepts b l a) (moved_is v a) (same_screens b.cart.mode b)
       ∙ ap (λ (k : Move). board_after k b.cart.mode b) (sym (own_move l a v))
   next_is l Clock =
-      either (λ (r : Clocked). r.board ≡ b) (in_range b) (ap (λ (k : MapperType). with_registers b (ticked k b.cart.mode b.registers).registers) is-mmc1) refl
+      either (λ (r : Clocked). r.left ≡ b) (in_range b) (ap (λ (k : MapperType). with_registers b (ticked k b.cart.mode b.registers).left) is-mmc1) refl
       ∙ same_screens b.cart.mode b
 
-pub no_load : (r : Register) (v : ℕ) → Nothing ≡ Fill r v → ⊥
-no_load r v e = let z : ◌≡◌ {A = ℕ} 0 1 = cc in omega arith
-
 pub chosen : (t : Bool) (k : Move) (r : Register) (v : ℕ) → cond t k Nothing ≡ Fill r v → (t ≡ true) × (k ≡ Fill r v)
-chosen true k r v e = (refl, e)
-chosen false k r v e = absurd (no_load r v e)
+chosen t k r v e = grind arith
 
 -- each register looks at no other but the CHR mode
 module _ (x y : mmc1-type.Mmc1) where
   one_serial : (m : Mode) (k : Move) → x.serial ≡ y.serial → (applied m k x).serial ≡ (applied m k y).serial
   unfolding applied
-  one_serial m Nothing e = e
-  one_serial m Clear e = refl
-  one_serial m (Enter s) e = refl
-  one_serial m (Fill r v) e = refl
+  one_serial m k e = grind arith
 
   pub one_prgmode : (m : Mode) (k : Move) → x.regs.prgmode ≡ y.regs.prgmode → (applied m k x).regs.prgmode ≡ (applied m k y).regs.prgmode
   unfolding applied reset load
-  one_prgmode m Nothing e = e
-  one_prgmode House Clear e = e
-  one_prgmode OnBoard Clear e = refl
-  one_prgmode m (Enter s) e = e
-  one_prgmode m (Fill Control v) e = refl
-  one_prgmode m (Fill Chr0 v) e = e
-  one_prgmode m (Fill Chr1 v) e = e
-  one_prgmode m (Fill Prg v) e = e
+  one_prgmode m k e = grind arith
 
   pub one_chrmode : (m : Mode) (k : Move) → x.regs.chrmode ≡ y.regs.chrmode → (applied m k x).regs.chrmode ≡ (applied m k y).regs.chrmode
   unfolding applied reset load
-  one_chrmode m Nothing e = e
-  one_chrmode House Clear e = e
-  one_chrmode OnBoard Clear e = e
-  one_chrmode m (Enter s) e = e
-  one_chrmode m (Fill Control v) e = refl
-  one_chrmode m (Fill Chr0 v) e = e
-  one_chrmode m (Fill Chr1 v) e = e
-  one_chrmode m (Fill Prg v) e = e
+  one_chrmode m k e = grind arith
 
   pub one_chr0 : (m : Mode) (k : Move) → x.regs.chrmode ≡ y.regs.chrmode → x.regs.chr0 ≡ y.regs.chr0 → (applied m k x).regs.chr0 ≡ (applied m k y).regs.chr0
   unfolding applied reset load
-  one_chr0 m Nothing d e = e
-  one_chr0 House Clear d e = e
-  one_chr0 OnBoard Clear d e = e
-  one_chr0 m (Enter s) d e = e
-  one_chr0 m (Fill Control v) d e = e
-  one_chr0 m (Fill Chr0 v) d e = ap (λ (n : ℕ). stored_chr0 m n v) d
-  one_chr0 m (Fill Chr1 v) d e = e
-  one_chr0 m (Fill Prg v) d e = e
+  one_chr0 m k d e = grind arith
 
   pub one_chr1 : (m : Mode) (k : Move) → x.regs.chrmode ≡ y.regs.chrmode → x.regs.chr1 ≡ y.regs.chr1 → (applied m k x).regs.chr1 ≡ (applied m k y).regs.chr1
   unfolding applied reset load
-  one_chr1 m Nothing d e = e
-  one_chr1 House Clear d e = e
-  one_chr1 OnBoard Clear d e = e
-  one_chr1 m (Enter s) d e = e
-  one_chr1 m (Fill Control v) d e = e
-  one_chr1 m (Fill Chr0 v) d e = e
-  one_chr1 m (Fill Chr1 v) d e = ap₂ (λ (n old : ℕ). stored_chr1 m n old v) d e
-  one_chr1 m (Fill Prg v) d e = e
+  one_chr1 m k d e = grind arith
 
   pub one_prg : (m : Mode) (k : Move) → x.regs.prg ≡ y.regs.prg → (applied m k x).regs.prg ≡ (applied m k y).regs.prg
   unfolding applied reset load
-  one_prg m Nothing e = e
-  one_prg House Clear e = e
-  one_prg OnBoard Clear e = e
-  one_prg m (Enter s) e = e
-  one_prg m (Fill Control v) e = e
-  one_prg m (Fill Chr0 v) e = e
-  one_prg m (Fill Chr1 v) e = e
-  one_prg m (Fill Prg v) e = refl
+  one_prg m k e = grind arith
 
 -- what two boards have in common from the bit 7 write on
 pub record Common (b d : Board) : Type 0 where

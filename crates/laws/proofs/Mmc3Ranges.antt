@@ -1,19 +1,15 @@
 -- MMC3's fields stay in range: a data write changes one register and keeps the bits that its range allows, and the line is raised and RAM locked in board mode only. Assumes nothing.
+use Rattle.std.specs.Prelude.{Option, Some, None}
 use Prim.Native.Nat.{ℕ, zero, suc, ◌%◌, ◌≤◌, ◌<◌}
 use mathlib.Core.Path.{◌≡◌, refl, ap, ◌∙◌}
 use mathlib.Core.Logic.{◌⊎◌, inl, inr, ⊎_elim}
-use mathlib.Core.Bool.{Bool, true, false, ◌&&◌}
+use mathlib.Core.Bool.{Bool, true, false}
 use mathlib.Core.List.{List, [], ◌∷◌}
 use native.Mathlib.Omega.{arith}
-use lib.Dec.{ltb, eqb}
 use lib.ListN.{get_or, set}
 use borrow.Author.Tests.{ltb-true, eqb-true, lt-ltb, le-ltb, le-leb, eq-eqb}
-use Rattle.rules.proofs.Bools.{split_3, split_4, either}
 use Rattle.common.specs.Answers.{is_headers}
 use Rattle.common.specs.declared.Mode.{Mode}
-use Rattle.common.specs.declared.Mode.TheVariants.{House, Board}
-use Rattle.common.specs.declared.Mirrors.{Mirrors}
-use Rattle.common.specs.declared.Mirrors.TheVariants.{AsBefore, As}
 use Rattle.mmc3.specs.Ram.{ram_start, marks_after}
 use Rattle.mmc3.specs.Clock.{with_irq, with_line, line_after, clocked, clock_in}
 use Rattle.mmc3.specs.Read.{register}
@@ -24,6 +20,7 @@ use Rattle.mmc3.specs.declared.Mmc3.{Mmc3}
 use Rattle.mmc3.specs.declared.RamMarks.{RamMarks}
 use Rattle.mmc3.specs.declared.Move.{Move}
 use Rattle.mmc3.specs.declared.Move.TheVariants.{Nothing, Select, Data, Screens, Protect, Latch, Reload, Enable, Disable}
+use Rattle.common.specs.declared.Mirroring.{Mirroring}
 
 -- after a store an element is as it was, or it is the one stored
 get_set : (l : List ℕ) (i x k : ℕ) → (get_or (set l i x) k 0 ≡ get_or l k 0) ⊎ ((k ≡ i) × (get_or (set l i x) k 0 ≡ x))
@@ -48,20 +45,16 @@ pub record Ranged (mode : Mode) (m : Mmc3) : Type 0 where
 pub ranged : (mode : Mode) (m : Mmc3) → fits mode m ≡ true → Ranged mode m
 unfolding fits register
 ranged mode m e =
-    let s = split_4 (ltb m.select 8 && ltb m.prgmode 2 && ltb m.chrmode 2)
-    (eqb (register m 0 % 2) 0 && eqb (register m 1 % 2) 0 && ltb (register m 6) 64 && ltb (register m 7) 64) (line_fits mode m.line) (ram_fits mode m.ram) e in
-    let p = split_4 (eqb (register m 0 % 2) 0) (eqb (register m 1 % 2) 0) (ltb (register m 6) 64) (ltb (register m 7) 64) s.1 in
-    let q = split_3 (ltb m.select 8) (ltb m.prgmode 2) (ltb m.chrmode 2) s.0 in
     record {
-      select = ltb-true m.select 8 q.0;
-      prgmode = ltb-true m.prgmode 2 q.1;
-      chrmode = ltb-true m.chrmode 2 q.2;
-      r0 = eqb-true (register m 0 % 2) 0 p.0;
-      r1 = eqb-true (register m 1 % 2) 0 p.1;
-      r6 = ltb-true (register m 6) 64 p.2;
-      r7 = ltb-true (register m 7) 64 p.3;
-      line = s.2;
-      ram = s.3;
+      select = grind (arith, ltb-true);
+      prgmode = grind (arith, ltb-true);
+      chrmode = grind (arith, ltb-true);
+      r0 = grind (arith, eqb-true);
+      r1 = grind (arith, eqb-true);
+      r6 = grind (arith, ltb-true);
+      r7 = grind (arith, ltb-true);
+      line = grind arith;
+      ram = grind arith;
     }
 
 in_fits : {mode : Mode} (m : Mmc3) → Ranged mode m → fits mode m ≡ true
@@ -124,8 +117,7 @@ with_line_lem mode m level l e =
 -- low in either mode
 pub low_fits : (mode : Mode) → line_fits mode false ≡ true
 unfolding line_fits
-low_fits House = refl
-low_fits Board = refl
+low_fits mode = grind arith
 
 -- and RAM by any marks that its mode allows
 with_ram_lem : (mode : Mode) (m : Mmc3) (r : RamMarks) → ram_fits mode r ≡ true → fits mode m ≡ true → fits mode (with_ram m r) ≡ true
@@ -137,26 +129,23 @@ with_ram_lem mode m r l e =
 -- enabled and writable in either mode
 pub start_fits : (mode : Mode) → ram_fits mode ram_start ≡ true
 unfolding ram_fits ram_is_start
-start_fits House = refl
-start_fits Board = refl
+start_fits mode = grind arith
 
 -- and what a write that sets them leaves
 marks_fit : (mode : Mode) (r : RamMarks) (v : ℕ) → ram_fits mode r ≡ true → ram_fits mode (marks_after mode r v) ≡ true
 unfolding ram_fits marks_after
-marks_fit House r v l = l
-marks_fit Board r v l = refl
+marks_fit mode r v l = grind arith
 
 -- and what a clock leaves
 line_fits_lem : (mode : Mode) (line raised : Bool) → line_fits mode line ≡ true → line_fits mode (line_after mode line raised) ≡ true
 unfolding line_fits line_after
-line_fits_lem House line raised l = l
-line_fits_lem Board line raised l = refl
+line_fits_lem mode line raised l = grind arith
 
-pub clocked_fits : (mode : Mode) (m : Mmc3) → fits mode m ≡ true → fits mode (clocked mode m).mmc3 ≡ true
+pub clocked_fits : (mode : Mode) (m : Mmc3) → fits mode m ≡ true → fits mode (clocked mode m).left ≡ true
 unfolding clocked
 clocked_fits mode m e =
     let c = clock_in mode m.irq in
-    with_line_lem mode (with_irq m c.irq) (line_after mode m.line c.answer) (line_fits_lem mode m.line c.answer (ranged mode m e).line) (with_irq_lem mode m c.irq ∙ e)
+    with_line_lem mode (with_irq m c.left) (line_after mode m.line c.answer) (line_fits_lem mode m.line c.answer (ranged mode m e).line) (with_irq_lem mode m c.left ∙ e)
 
 select_fits : (mode : Mode) (m : Mmc3) (v : ℕ) → fits mode m ≡ true → fits mode (applied mode (Select v) m) ≡ true
 unfolding applied
@@ -177,27 +166,19 @@ applied_fits mode Reload m e = with_irq_lem mode m _ ∙ e
 applied_fits mode Enable m e = with_irq_lem mode m _ ∙ e
 applied_fits mode Disable m e = with_line_lem mode (with_irq m _) false (low_fits mode) (with_irq_lem mode m _ ∙ e)
 
-pub written_fits : (mode : Mode) (m : Mmc3) (v a : ℕ) → fits mode m ≡ true → fits mode (written mode m v a).mmc3 ≡ true
+pub written_fits : (mode : Mode) (m : Mmc3) (v a : ℕ) → fits mode m ≡ true → fits mode (written mode m v a).left ≡ true
 unfolding written
 written_fits mode m v a e = applied_fits mode (move_of v a) m e
 
 -- what a write asks of the screens is one that a header can ask for
-abbrev pub headed : Mirrors → Bool
-headed AsBefore = true
-headed (As m) = is_headers m
+abbrev pub headed : Option Mirroring → Bool
+headed None = true
+headed (Some m) = is_headers m
 
 asks_headed : (k : Move) → headed (mirrors_of k) ≡ true
 unfolding mirrors_of screens
-asks_headed (Screens v) = either (λ s. is_headers s ≡ true) (eqb (v % 2) 1) refl refl
-asks_headed Nothing = refl
-asks_headed (Select v) = refl
-asks_headed (Data v) = refl
-asks_headed (Protect v) = refl
-asks_headed (Latch v) = refl
-asks_headed Reload = refl
-asks_headed Enable = refl
-asks_headed Disable = refl
+asks_headed k = grind arith
 
-pub written_headed : (mode : Mode) (m : Mmc3) (v a : ℕ) → headed (written mode m v a).mirrors ≡ true
+pub written_headed : (mode : Mode) (m : Mmc3) (v a : ℕ) → headed (written mode m v a).answer ≡ true
 unfolding written
 written_headed mode m v a = asks_headed (move_of v a)

@@ -2,10 +2,11 @@
 -- Assumes nothing.
 use Prim.Native.Nat.{ℕ}
 use mathlib.Core.Path.{◌≡◌, refl}
-use mathlib.Core.Bool.{Bool, true, false, not, ◌||◌}
+use mathlib.Core.Bool.{Bool, false, not, ◌||◌}
 use mathlib.Core.List.{List, [], ◌∷◌}
 use lib.Dec.{ltb}
 use lib.ListN.{length}
+use native.Mathlib.Omega.{arith}
 use Rattle.common.specs.declared.Mode.{Mode}
 use Rattle.cartridge.specs.Refusals.{given, first}
 use Rattle.cartridge.specs.Header.{is_ines, header_of, is_special, header_refusals, header_as, header_read}
@@ -14,9 +15,9 @@ use Rattle.cartridge.specs.Load.{bad_prg, needed, no_powers, rams_fit, load_refu
 use Rattle.cartridge.specs.declared.Cartridge.{Cartridge}
 use Rattle.cartridge.specs.declared.Header.{Header}
 use Rattle.places.specs.Places.{byte_at, answer_at}
-use Rattle.places.specs.declared.Landing.{Landing}
+use Rattle.places.specs.Places.{Landing}
 use Rattle.boards.specs.Numbers.{refused, refused_by, header_number, load_number, read_number, write_number, clock_number}
-use Rattle.boards.specs.Start.{loaded_board, load}
+use Rattle.boards.specs.Start.{loaded_board, load, load_answer}
 use Rattle.boards.specs.Range.{in_range, is_loaded, call_refusals, guarded}
 use Rattle.boards.specs.Read.{read_landing, read}
 use Rattle.boards.specs.Write.{write_landing, landing, written_as}
@@ -25,21 +26,13 @@ use Rattle.boards.specs.declared.Board.{Board}
 use Rattle.laws.specs.Numbers.{first_number, answer_of}
 
 eight : (c : Cartridge) (b9 b3 b4 b5 b16 b6 b7 b8 : Bool)
-    → load_number (loaded_board (loaded_as (first (given 9 b9 ∷ given 3 b3 ∷ given 4 b4 ∷ given 5 b5 ∷ given 16 b16 ∷ given 6 b6 ∷ given 7 b7 ∷ given 8 b8 ∷ [])) c)).answer
+    → load_number (load_answer (loaded_board (loaded_as (first (given 9 b9 ∷ given 3 b3 ∷ given 4 b4 ∷ given 5 b5 ∷ given 16 b16 ∷ given 6 b6 ∷ given 7 b7 ∷ given 8 b8 ∷ [])) c)))
     ≡ answer_of (first_number (given 9 b9 ∷ given 3 b3 ∷ given 4 b4 ∷ given 5 b5 ∷ given 16 b16 ∷ given 6 b6 ∷ given 7 b7 ∷ given 8 b8 ∷ []))
-unfolding load_number refused loaded_board loaded_as
-eight c true b3 b4 b5 b16 b6 b7 b8 = refl
-eight c false true b4 b5 b16 b6 b7 b8 = refl
-eight c false false true b5 b16 b6 b7 b8 = refl
-eight c false false false true b16 b6 b7 b8 = refl
-eight c false false false false true b6 b7 b8 = refl
-eight c false false false false false true b7 b8 = refl
-eight c false false false false false false true b8 = refl
-eight c false false false false false false false true = refl
-eight c false false false false false false false false = refl
+unfolding load_number refused loaded_board loaded_as load_answer
+eight c b9 b3 b4 b5 b16 b6 b7 b8 = grind arith
 
 -- "Order in load: 9, 3, 4, 5, 6, 7, 8", with 16 "after 5 and before 6"
-pub a_load_answers_the_first_number : (s : List ℕ) (mode : Mode) (prg chr : ℕ) → load_number (load s mode prg chr).answer ≡ answer_of (first_number (load_refusals s mode prg chr))
+pub a_load_answers_the_first_number : (s : List ℕ) (mode : Mode) (prg chr : ℕ) → load_number (load_answer (load s mode prg chr)) ≡ answer_of (first_number (load_refusals s mode prg chr))
 unfolding verdict
 a_load_answers_the_first_number s mode prg chr =
     let h = header_of s in
@@ -48,9 +41,7 @@ a_load_answers_the_first_number s mode prg chr =
 
 two : (h : Header) (b1 b2 : Bool) → header_number (header_as (first (given 1 b1 ∷ given 2 b2 ∷ [])) h) ≡ answer_of (first_number (given 1 b1 ∷ given 2 b2 ∷ []))
 unfolding header_number header_as refused
-two h true b2 = refl
-two h false true = refl
-two h false false = refl
+two h b1 b2 = grind arith
 
 pub the_header_reader_answers_the_first_number : (s : List ℕ) → header_number (header_read s) ≡ answer_of (first_number (header_refusals s))
 unfolding header_read
@@ -59,16 +50,12 @@ the_header_reader_answers_the_first_number s = two (header_of s) (ltb (length s)
 read_first : (l : Landing) (byte : ℕ) (rams state : Bool) → (first_number (call_refusals rams state) ≡ 0 → ⊥)
     → read_number (answer_at (guarded rams state l) byte) ≡ refused_by (first_number (call_refusals rams state))
 unfolding guarded answer_at read_number refused
-read_first l byte true true n = absurd (n refl)
-read_first l byte true false n = refl
-read_first l byte false state n = refl
+read_first l byte rams state n = grind arith
 
 write_first : (b : Board) (v a : ℕ) (l : Landing) (rams state : Bool) → (first_number (call_refusals rams state) ≡ 0 → ⊥)
     → write_number (written_as b (guarded rams state l) v a).answer ≡ refused_by (first_number (call_refusals rams state))
 unfolding guarded written_as write_number refused
-write_first b v a l true true n = absurd (n refl)
-write_first b v a l true false n = refl
-write_first b v a l false state n = refl
+write_first b v a l rams state n = grind arith
 
 -- "In read and write: 9, 10, then the board's own"
 module _ (b : Board) (image prg chr : List ℕ) (a : ℕ) where

@@ -34,6 +34,6 @@ module _ {k : MapperType} {b d : Board} (o : OneImage k b d) where
   unfolding after
   wrote_one w = after_one (call w.lent (Write w.address w.byte) ∷ []) []
 
-  pub clock_one : OneImage k (clock b).board d
+  pub clock_one : OneImage k (clock b).left d
   unfolding after next
   clock_one = after_one (call (lent [] [] []) Clock ∷ []) []

@@ -3,9 +3,10 @@ use Prim.Native.Nat.{ℕ}
 use mathlib.Core.Path.{◌≡◌, refl}
 use mathlib.Core.Bool.{Bool, true, false}
 use lib.ListN.{length}
+use native.Mathlib.Omega.{arith}
 use Rattle.cartridge.specs.Load.{rams_fit}
 use Rattle.places.specs.Places.{byte_at, answer_at}
-use Rattle.places.specs.declared.Landing.{Landing}
+use Rattle.places.specs.Places.{Landing}
 use Rattle.boards.specs.Start.{no_board}
 use Rattle.boards.specs.Range.{in_range, is_loaded, guarded}
 use Rattle.boards.specs.Read as reads
@@ -21,13 +22,11 @@ use Rattle.laws.specs.Calls.{is_refusal}
 
 no_read : (rams : Bool) (p : Landing) (byte : ℕ) → is_refusal (toRead (answer_at (guarded rams false p) byte)) ≡ true
 unfolding answer_at guarded
-no_read true p byte = refl
-no_read false p byte = refl
+no_read rams p byte = grind arith
 
 no_write : (rams : Bool) (p : Landing) (b : Board) (v a : ℕ) → is_refusal (toWrite (written_as b (guarded rams false p) v a).answer) ≡ true
 unfolding written_as guarded
-no_write true p b v a = refl
-no_write false p b v a = refl
+no_write rams p b v a = grind arith
 
 pub out_of_range_is_refused : (b : Board) → in_range b ≡ false → (l : Lent) (e : Event) → is_refusal (answer b l e) ≡ true
 unfolding answer reads.read landing is_loaded clock

@@ -7,7 +7,7 @@ use native.Mathlib.Nat.{le_of_suc-le-suc}
 use native.Mathlib.Omega.{arith}
 use lib.ListN.{length, take, length-replicate}
 use Rattle.cartridge.specs.Load.{rams_fit}
-use Rattle.places.specs.declared.Landing.{Landing}
+use Rattle.places.specs.Places.{Landing}
 use Rattle.mmc1.specs.declared.Move.TheVariants.{Fill}
 use Rattle.mmc1.specs.declared.Register.{Register}
 use Rattle.boards.specs.Range.{is_loaded, guarded}
@@ -19,7 +19,6 @@ use Rattle.boards.specs.declared.Event.TheVariants.{Read, Write, Clock}
 use Rattle.laws.specs.Calls.{wiped_lent, wiped, SameCalls, wiped_for}
 use Rattle.laws.specs.Loads.{is_accepted, accepts, made, moves}
 use Rattle.laws.specs.SettlesMmc1.{LoadsAt}
-use Rattle.laws.proofs.Mmc1Moves.{no_load}
 
 -- a write is accepted by the lengths of what it is lent
 wiped_landing : (b : Board) (l : Lent) (a : ℕ) → landing b (wiped_lent l).image (wiped_lent l).prg (wiped_lent l).chr a ≡ landing b l.image l.prg l.chr a
@@ -37,7 +36,7 @@ same_accepts b l k e a =
 pub wiped_next : (b : Board) (l : Lent) (e : Event) → next b (wiped_for e l) e ≡ next b l e
 unfolding next
 wiped_next b l (Read a) = refl
-wiped_next b l (Write a v) = ap (λ (p : Landing). (written_as b p v a).board) (wiped_landing b l a)
+wiped_next b l (Write a v) = ap (λ (p : Landing). (written_as b p v a).left) (wiped_landing b l a)
 wiped_next b l Clock = refl
 
 wiped_made : (b : Board) (l : Lent) (e : Event) → made b (wiped_for e l) e ≡ made b l e
@@ -87,7 +86,7 @@ module _ (I J : Board → Board → Type 0) (keep-I : Preserved I) (keep-J : Pre
   -- such a load at a position leaves J at the end
   pub once : (b d : Board) → I b d → (cs : List Call) (i : ℕ) → LoadsAt b cs r i → X (after b (take i cs)) → J (after b cs) (after d cs)
   unfolding after moves
-  once b d p [] i l x = absurd (no_load r l.bits l.done)
+  once b d p [] i l x = cc
   once b d p (call k e ∷ cs) zero l x = run J keep-J (next b k e) (next d k e) (makes b d p x k e l.bits l.done) cs
   once b d p (call k e ∷ cs) (suc i) l x = once (next b k e) (next d k e) (keep-I b d p k e) cs i (record { bits = l.bits; done = l.done }) x
 
@@ -98,7 +97,7 @@ Any b = Unit {0}
 module _ (I J K : Board → Board → Type 0) (keep-I : Preserved I) (keep-J : Preserved J) (keep-K : Preserved K) (X : Board → Type 0) (r s : Register) (makes-J : Makes I Any r J) (makes-K : Makes J X s K) where
   pub twice : (b d : Board) → I b d → (cs : List Call) (i j : ℕ) → i < j → LoadsAt b cs r i → LoadsAt b cs s j → X (after b (take j cs)) → K (after b cs) (after d cs)
   unfolding after moves
-  twice b d p [] i j h l k x = absurd (no_load r l.bits l.done)
+  twice b d p [] i j h l k x = cc
   twice b d p (call n e ∷ cs) i zero h l k x = absurd (omega arith)
   twice b d p (call n e ∷ cs) zero (suc j) h l k x =
       once J K keep-J keep-K X s makes-K (next b n e) (next d n e) (makes-J b d p tt n e l.bits l.done) cs j (record { bits = k.bits; done = k.done }) x

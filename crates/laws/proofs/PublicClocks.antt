@@ -37,8 +37,8 @@ plays_ticked p (suc k) = let q = plays_ticked p k in plays_on q (clock_one (itse
 
 -- what a clock leaves and answers, in the mode of the board
 module _ {mode : Mode} {b : Board} (p : Plays mode b) where
-  pub tick_leaves : (clock b).board.registers.mmc3 ≡ (mmc3-clock.clocked mode b.registers.mmc3).mmc3
-  tick_leaves = tick_mmc3 b p.is_in_range p.is_mmc3 ∙ ap (λ (m : Mode). (mmc3-clock.clocked m b.registers.mmc3).mmc3) p.in_mode
+  pub tick_leaves : (clock b).left.registers.mmc3 ≡ (mmc3-clock.clocked mode b.registers.mmc3).left
+  tick_leaves = tick_mmc3 b p.is_in_range p.is_mmc3 ∙ ap (λ (m : Mode). (mmc3-clock.clocked m b.registers.mmc3).left) p.in_mode
 
   tick_says : (clock b).answer ≡ yes_no (mmc3-clock.clocked mode b.registers.mmc3).answer
   tick_says = tick_answer b p.is_in_range p.is_mmc3 ∙ ap (λ (m : Mode). yes_no (mmc3-clock.clocked m b.registers.mmc3).answer) p.in_mode
@@ -48,12 +48,11 @@ follows : {mode : Mode} {b : Board} → Plays mode b → (k : ℕ) → (ticked k
 unfolding mmc3-clock.clocked mmc3-clock.with_irq
 follows p zero = refl
 follows {mode} {b} p (suc k) =
-    ap (λ (m : mmc3-type.Mmc3). m.irq) (tick_leaves (plays_ticked p k)) ∙ ap (λ (u : Irq). (mmc3-clock.clock_in mode u).irq) (follows p k)
+    ap (λ (m : mmc3-type.Mmc3). m.irq) (tick_leaves (plays_ticked p k)) ∙ ap (λ (u : Irq). (mmc3-clock.clock_in mode u).left) (follows p k)
 
 pub yes_no_lem : (t : Bool) → is_yes (yes_no t) ≡ t
 unfolding yes_no
-yes_no_lem true = refl
-yes_no_lem false = refl
+yes_no_lem t = grind arith
 
 -- in house mode it answers as that unit does
 house_says : {b : Board} → Plays House b → (k : ℕ) → says_yes k b ≡ unit_says House k b.registers.mmc3.irq
@@ -64,11 +63,11 @@ house_says {b} p (suc k) =
 
 -- in board mode a clock answers the level that it leaves, which is up where it was or the unit raises it
 module _ {b : Board} (p : Plays OnBoard b) where
-  pub level_said : (clock b).answer ≡ yes_no (line_up (clock b).board)
+  pub level_said : (clock b).answer ≡ yes_no (line_up (clock b).left)
   unfolding mmc3-clock.clocked mmc3-clock.clock_answer
   level_said = tick_says p ∙ sym (ap (λ (m : mmc3-type.Mmc3). yes_no m.line) (tick_leaves p))
 
-  pub level_after : line_up (clock b).board ≡ (line_up b || (mmc3-clock.board_clock b.registers.mmc3.irq).answer)
+  pub level_after : line_up (clock b).left ≡ (line_up b || (mmc3-clock.board_clock b.registers.mmc3.irq).answer)
   unfolding mmc3-clock.clocked mmc3-clock.line_after mmc3-clock.clock_in
   level_after = ap (λ (m : mmc3-type.Mmc3). m.line) (tick_leaves p)
 

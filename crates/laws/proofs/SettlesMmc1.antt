@@ -9,13 +9,13 @@ use native.Mathlib.Omega.{arith}
 use lib.Dec.{ltb}
 use lib.ListN.{take}
 use borrow.Author.Tests.{ltb-false, le-ltb}
-use Rattle.rules.proofs.Bools.{split_3, either}
+use Rattle.std.proofs.lemmas.Bool.{cond_both}
+use Rattle.rules.proofs.Bools.{either}
 use Rattle.common.specs.Common.{is_signed}
 use Rattle.common.proofs.Answers.{same_is}
 use Rattle.common.specs.declared.Mode.{Mode}
 use Rattle.common.specs.declared.Mode.TheVariants.{House, Board as OnBoard}
 use Rattle.common.specs.declared.Mirroring.{Mirroring}
-use Rattle.cartridge.specs.Load.{could_load}
 use Rattle.cartridge.specs.Mappers.{is_mapper}
 use Rattle.cartridge.specs.declared.Cartridge.{Cartridge}
 use Rattle.cartridge.specs.declared.MapperType.TheVariants.{Mmc1}
@@ -26,7 +26,6 @@ use Rattle.mmc1.specs.declared.Move.TheVariants.{Fill, Clear}
 use Rattle.mmc1.specs.declared.Register.{Register}
 use Rattle.mmc1.specs.declared.Register.TheVariants.{Control, Chr0, Chr1, Prg}
 use Rattle.mmc1.specs.declared.Serial.{Serial}
-use Rattle.boards.specs.Registers.{fits}
 use Rattle.boards.specs.Range.{in_range, screens_fit, mirroring_fits}
 use Rattle.boards.specs.Write.{next_mirroring}
 use Rattle.boards.specs.Runs.{Lent, next, Call, call, after}
@@ -36,11 +35,10 @@ use Rattle.boards.specs.declared.Event.TheVariants.{Read, Write, Clock}
 use Rattle.laws.specs.Calls.{OneImage, LentWrite, wrote, SameCalls}
 use Rattle.laws.specs.Loads.{accepts, made, moves}
 use Rattle.laws.specs.SettlesMmc1.{Clears, move_at, is_serial, serial_writes, Settled, Agree, Settles}
-use Rattle.laws.proofs.Cases.{by_test}
 use Rattle.laws.proofs.Positions.{same_after, same_moves, Preserved, Makes, Any, once, twice}
 use Rattle.laws.proofs.Ranges.{next_keeps_cart}
 use Rattle.laws.proofs.OneImage.{swapped, after_one, wrote_one}
-use Rattle.laws.proofs.Mmc1Moves.{board_after, own_move, next_is, no_load, chosen, one_prgmode, one_chrmode, one_chr0, one_chr1, one_prg, Common, one_move, by_move, next_common}
+use Rattle.laws.proofs.Mmc1Moves.{board_after, own_move, next_is, chosen, one_prgmode, one_chrmode, one_chr0, one_chr1, one_prg, Common, one_move, by_move, next_common}
 use Rattle.laws.proofs.Mmc1Answers.{Alike, answers_alike, played_alike, ended_alike}
 
 one_moves : {b d : Board} → Common b d → (cs : List Call) → moves b cs ≡ moves d cs
@@ -54,7 +52,7 @@ unfolding in_range mirroring_fits screens_fit
 house_screens b h e =
     same_is b.mirroring b.cart.mirroring
     (subst (λ (m : Mode). screens_fit m b.cart.mapper b.cart.mirroring b.mirroring ≡ true) e
-    (split_3 (could_load b.cart) (fits b.cart.mapper b.cart.mode b.registers) (mirroring_fits b) h).2)
+    (grind arith))
 
 -- what a control load makes one, and then CHR 0, CHR 1 and PRG loads
 record Modes (b d : Board) : Type 0 where
@@ -159,8 +157,7 @@ Wide b = b.registers.mmc1.regs.chrmode ≡ 1
 
 wide_stored : (m : Mode) (n old v : ℕ) → n ≡ 1 → stored_chr1 m n old v ≡ v
 unfolding stored_chr1
-wide_stored House n old v e = rw e refl
-wide_stored OnBoard n old v e = refl
+wide_stored m n old v e = grind arith
 
 chr1_makes : Makes Modes Wide Chr1 Second
 unfolding applied load
@@ -254,25 +251,25 @@ next_count b h l e = subst⁻¹ (λ (x : Board). x.registers.mmc1.serial.count �
 full : (s : Serial) (v a : ℕ) (r : Register) (u : ℕ) → move_of s v a ≡ Fill r u → 4 ≤ s.count
 unfolding move_of
 full s v a r u =
-    by_test Full (ltb a 0x8000) (λ t e. absurd (no_load r u e))
-    (λ t. by_test Full (is_signed v) (λ t e. absurd (let z : ◌≡◌ {A = ℕ} 0 1 = cc in omega arith))
-    (λ t. by_test Full (ltb s.count 4) (λ t e. absurd (let z : ◌≡◌ {A = ℕ} 0 1 = cc in omega arith)) (λ t e. ltb-false s.count 4 t)))
+    cond_both (ltb a 0x8000) _ _ Full (λ t e. cc)
+    (λ t. cond_both (is_signed v) _ _ Full (λ t e. cc)
+    (λ t. cond_both (ltb s.count 4) _ _ Full (λ t e. cc) (λ t e. ltb-false s.count 4 t)))
   where
     Full : Move → Type 0
     Full k = k ≡ Fill r u → 4 ≤ s.count
 
 fifth : (b : Board) (l : Lent) (e : Event) (r : Register) (v : ℕ) → made b l e ≡ Fill r v → 4 ≤ b.registers.mmc1.serial.count
 unfolding made
-fifth b l (Read a) r v f = absurd (no_load r v f)
+fifth b l (Read a) r v f = cc
 fifth b l (Write a u) r v f =
     let s = b.registers.mmc1.serial in
     full s u a r v (chosen (is_mapper b.cart.mapper Mmc1 && accepts b l a) (move_of s u a) r v f).1
-fifth b l Clock r v f = absurd (no_load r v f)
+fifth b l Clock r v f = cc
 
 fifth_at : (b : Board) → b.cart.mapper ≡ Mmc1 → (cs : List Call) (i : ℕ) (r : Register) (v : ℕ) → move_at b cs i ≡ Fill r v
     → 5 ≤ b.registers.mmc1.serial.count + serial_writes (take (suc i) (moves b cs))
 unfolding moves
-fifth_at b m [] i r v h = absurd (no_load r v h)
+fifth_at b m [] i r v h = cc
 fifth_at b m (call l e ∷ cs) zero r v h = rw h (omega (arith, fifth b l e r v h))
 fifth_at b m (call l e ∷ cs) (suc i) r v h =
     omega (arith, next_count b m l e, fifth_at (next b l e) (ap (λ (x : Cartridge). x.mapper) (next_keeps_cart b l e) ∙ m) cs i r v h)

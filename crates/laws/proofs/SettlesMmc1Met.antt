@@ -1,5 +1,6 @@
 -- Two histories that meet all that the theorems of `Demand3` ask of MMC1, in each mode, and two runs that fall short by one hypothesis and leave the boards
 -- apart: each is computed. Assumes nothing.
+use Rattle.std.specs.Prelude.{Ok, Err}
 use Prim.Native.Nat.{ℕ, ◌/◌, ◌%◌}
 use mathlib.Core.Path.{◌≡◌, refl}
 use mathlib.Core.List.{List, [], ◌∷◌, ◌++◌, map}
@@ -11,13 +12,11 @@ use Rattle.common.specs.declared.Mirroring.TheVariants.{SingleScreenUpper}
 use Rattle.common.specs.declared.Refusal.TheVariants.{BankPastData}
 use Rattle.memory.proofs.Bytes.{all_bytes, are_bytes}
 use Rattle.cartridge.specs.declared.MapperType.TheVariants.{Mmc1}
-use Rattle.places.specs.declared.ReadAnswer.TheVariants.{Byte, Refused}
 use Rattle.mmc1.specs.declared.Move.TheVariants.{Fill}
 use Rattle.mmc1.specs.declared.Register.TheVariants.{Control, Chr0, Chr1, Prg}
 use Rattle.boards.specs.Runs as runs
 use Rattle.boards.specs.Runs.{Lent, Call, call, after, answers}
 use Rattle.boards.specs.declared.Board.{Board}
-use Rattle.boards.specs.declared.LoadAnswer.TheVariants.{Accepted}
 use Rattle.boards.specs.declared.Event.{Event}
 use Rattle.boards.specs.declared.Event.TheVariants.{Read, Write, Clock}
 use Rattle.boards.specs.declared.Answer.{Answer}
@@ -50,7 +49,7 @@ calls l =
     call (runs.lent l.image [] l.chr) (Write 0x8000 1)
     ∷ map (call l) (Read 0x8000 ∷ Clock ∷ five 0xE000 7 ++ five 0x8000 16 ++ five 0xC000 6 ++ five 0xA000 5)
 
-pub met_loads : (mode : Mode) → (load_of mode mmc1_image).answer ≡ Accepted
+pub met_loads : (mode : Mode) → (load_of mode mmc1_image).answer ≡ Ok tt
 unfolding opened
 met_loads House = refl
 met_loads OnBoard = refl
@@ -139,11 +138,11 @@ apart es a x y =
     × (answers (after (wrote (reached (used House)) (bit7 lent)) (calls_of mmc1_image es)) (call lent (Read a) ∷ []) ≡ y ∷ [])
 
 -- a CHR 0 load before the control load, and all else as asked
-pub chr0_before_the_control_load : apart (five 0xA000 2 ++ five 0x8000 16 ++ five 0xC000 0 ++ five 0xE000 0) 0x0000 (toRead (Byte 0)) (toRead (Refused BankPastData))
+pub chr0_before_the_control_load : apart (five 0xA000 2 ++ five 0x8000 16 ++ five 0xC000 0 ++ five 0xE000 0) 0x0000 (toRead (Ok 0)) (toRead (Err BankPastData))
 unfolding opened
 chr0_before_the_control_load = (refl, refl)
 
 -- a CHR 1 load in 8 KB mode, and all else as asked; a second control load shows CHR 1
-pub chr1_in_8_kb_mode : apart (five 0x8000 0 ++ five 0xA000 0 ++ five 0xC000 1 ++ five 0xE000 0 ++ five 0x8000 16) 0x1000 (toRead (Byte 0)) (toRead (Refused BankPastData))
+pub chr1_in_8_kb_mode : apart (five 0x8000 0 ++ five 0xA000 0 ++ five 0xC000 1 ++ five 0xE000 0 ++ five 0x8000 16) 0x1000 (toRead (Ok 0)) (toRead (Err BankPastData))
 unfolding opened
 chr1_in_8_kb_mode = (refl, refl)

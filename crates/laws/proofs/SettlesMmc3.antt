@@ -3,8 +3,9 @@
 -- Assumes nothing.
 use Prim.Native.Nat.{ℕ}
 use mathlib.Core.Path.{◌≡◌, refl, sym, ap, ap₂, ◌∙◌, subst}
-use mathlib.Core.Bool.{Bool, true, false, cond, not, ◌&&◌}
+use mathlib.Core.Bool.{Bool, true, cond, not, ◌&&◌}
 use mathlib.Core.List.{List, [], ◌∷◌, map}
+use native.Mathlib.Omega.{arith}
 use lib.Dec.{ltb, leb}
 use Rattle.rules.proofs.Bools.{either}
 use Rattle.common.specs.declared.Mode.{Mode}
@@ -15,17 +16,16 @@ use Rattle.cartridge.specs.declared.MapperType.{MapperType}
 use Rattle.cartridge.specs.declared.MapperType.TheVariants.{Mmc3}
 use Rattle.places.specs.Windows.{Window, prg_ram_of, in_windows, lands_in}
 use Rattle.places.specs.Windows.Window.{Empty, Refused}
-use Rattle.places.specs.declared.Landing.{Landing}
+use Rattle.places.specs.Places.{Landing}
 use Rattle.mmc3.specs.Ram.{ram_written}
 use Rattle.mmc3.specs.Clock as mmc3-clock
 use Rattle.mmc3.specs.Read as mmc3
 use Rattle.mmc3.specs.Write.{is_even, move_of, applied}
 use Rattle.mmc3.specs.declared.Irq.{Irq}
 use Rattle.mmc3.specs.declared.RamMarks.{RamMarks}
-use Rattle.mmc3.specs.declared.Clocked.{Clocked}
+use Rattle.mmc3.specs.Clock.{Clocked}
 use Rattle.mmc3.specs.declared.Mmc3 as mmc3-type
 use Rattle.mmc3.specs.declared.Move.{Move}
-use Rattle.mmc3.specs.declared.Move.TheVariants.{Nothing, Select, Data, Screens, Protect, Latch, Reload, Enable, Disable}
 use Rattle.boards.specs.Range.{in_range}
 use Rattle.boards.specs.Write.{write_window_on, write_landing, accepted_write, landing}
 use Rattle.boards.specs.Clock.{yes_no, clock}
@@ -54,25 +54,17 @@ signal m = (m.irq, m.line)
 -- a move leaves the same of the same
 one_signal : (x y : Mode) (k : Move) (m n : mmc3-type.Mmc3) → signal m ≡ signal n → signal (applied x k m) ≡ signal (applied y k n)
 unfolding applied mmc3-clock.with_irq
-one_signal x y Nothing m n e = e
-one_signal x y (Select v) m n e = e
-one_signal x y (Data v) m n e = e
-one_signal x y (Screens v) m n e = e
-one_signal x y (Protect v) m n e = e
-one_signal x y (Latch v) m n e = λ i. (record { enabled = (e i).0.enabled; latch = v; counter = (e i).0.counter; reload = (e i).0.reload }, (e i).1)
-one_signal x y Reload m n e = λ i. (record { enabled = (e i).0.enabled; latch = (e i).0.latch; counter = (e i).0.counter; reload = true }, (e i).1)
-one_signal x y Enable m n e = λ i. (record { enabled = true; latch = (e i).0.latch; counter = (e i).0.counter; reload = (e i).0.reload }, (e i).1)
-one_signal x y Disable m n e = λ i. (record { enabled = false; latch = (e i).0.latch; counter = (e i).0.counter; reload = (e i).0.reload }, false)
+one_signal x y k m n e = grind arith
 
 -- what a clock whose unit did this leaves of them, and answers
 abbrev left : Mode → Bool → Clocked → Signal
-left mode line c = (c.irq, mmc3-clock.line_after mode line c.answer)
+left mode line c = (c.left, mmc3-clock.line_after mode line c.answer)
 
 abbrev said : Mode → Bool → Clocked → Bool
 said mode line c = mmc3-clock.clock_answer mode (mmc3-clock.line_after mode line c.answer) c.answer
 
 module _ (b : Board) (ok : in_range b ≡ true) (is_mmc3 : b.cart.mapper ≡ Mmc3) where
-  tick_signal : signal (clock b).board.registers.mmc3 ≡ left b.cart.mode (line_up b) (mmc3-clock.clock_in b.cart.mode b.registers.mmc3.irq)
+  tick_signal : signal (clock b).left.registers.mmc3 ≡ left b.cart.mode (line_up b) (mmc3-clock.clock_in b.cart.mode b.registers.mmc3.irq)
   unfolding mmc3-clock.clocked mmc3-clock.with_irq
   tick_signal = ap signal (tick_mmc3 b ok is_mmc3)
 
@@ -134,7 +126,7 @@ unfolding next
 next_signal r l (Read a) = r.same
 next_signal {b} {d} r l (Write a v) =
     ap signal_of (after_write b (landing b l.image l.prg l.chr a) v a)
-    ∙ subst (λ (t : Bool). signal_of (cond (accepts b l a) (accepted_write b v a).board b) ≡ signal_of (cond t (accepted_write d v a).board d)) (both_accept r a l)
+    ∙ subst (λ (t : Bool). signal_of (cond (accepts b l a) (accepted_write b v a).left b) ≡ signal_of (cond t (accepted_write d v a).left d)) (both_accept r a l)
     (alike (λ (x y : Board). signal_of x ≡ signal_of y) (accepts b l a)
     (ap signal (moved_mmc3 b r.one.mapper v a)
     ∙ one_signal b.cart.mode d.cart.mode (move_of v a) b.registers.mmc3 d.registers.mmc3 r.same
@@ -159,9 +151,7 @@ module _ (b d : Board) (l k : Lent) (cs ds : List Call) where
   one_more : (e : Event) → (clock b).answer ≡ (clock d).answer → irq_answers (next b l e) cs ≡ irq_answers (next d k e) ds
       → irq_answers b (call l e ∷ cs) ≡ irq_answers d (call k e ∷ ds)
   unfolding answer answers
-  one_more (Read a) p q = q
-  one_more (Write a v) p q = q
-  one_more Clock p q = λ i. p i ∷ q i
+  one_more e p q = grind arith
 
 answers_alike : {b d : Board} → Alike b d → (cs : List Call) → irq_answers b cs ≡ irq_answers d cs
 unfolding answers
@@ -170,8 +160,7 @@ answers_alike {b} {d} r (call l e ∷ cs) = one_more b d l l cs cs e (answer_ali
 
 settled : (mode : Mode) (v c e : ℕ) → mmc3-clock.clock_in mode (ready v c) ≡ mmc3-clock.clock_in mode (ready v e)
 unfolding mmc3-clock.clock_in mmc3-clock.house_clock mmc3-clock.board_clock mmc3-clock.next_counter
-settled House v c e = refl
-settled OnBoard v c e = refl
+settled mode v c e = grind arith
 
 wiped_irq : (b : Board) (cs : List Call) → irq_answers b (map wiped cs) ≡ irq_answers b cs
 unfolding answers
@@ -193,13 +182,13 @@ pub mmc3_settles : (b d : Board) → OneImage Mmc3 b d → line_up b ≡ line_up
 unfolding next
 mmc3_settles b d one line w u latch p q cs ds same_calls =
     record {
-      irq_answers_agree = λ l k. one_more (armed b w) (armed d u) l k cs ds Clock answered (answers_alike onward cs ∙ same_irq (clock (armed d u)).board cs ds same_calls);
+      irq_answers_agree = λ l k. one_more (armed b w) (armed d u) l k cs ds Clock answered (answers_alike onward cs ∙ same_irq (clock (armed d u)).left cs ds same_calls);
       levels_agree =
-          ap (λ (s : Signal). s.1) (after_alike onward cs).same ∙ ap line_up (same_after (clock (armed d u)).board cs ds same_calls);
+          ap (λ (s : Signal). s.1) (after_alike onward cs).same ∙ ap line_up (same_after (clock (armed d u)).left cs ds same_calls);
       both_refuse_or_neither = λ l k e a.
           both_accept (after_alike onward cs) a l
-          ∙ ap (λ (x : Board). accepts x l a) (same_after (clock (armed d u)).board cs ds same_calls)
-          ∙ same_accepts (after (clock (armed d u)).board ds) l k e a;
+          ∙ ap (λ (x : Board). accepts x l a) (same_after (clock (armed d u)).left cs ds same_calls)
+          ∙ same_accepts (after (clock (armed d u)).left ds) l k e a;
     }
   where
     both : OneImage Mmc3 (armed b w) (armed d u)
@@ -227,7 +216,7 @@ mmc3_settles b d one line w u latch p q cs ds same_calls =
         ∙ by_the_clock (λ (m : Mode) (l : Bool) (c : Clocked). yes_no (said m l c))
         ∙ sym (tick_said (armed d u) both.second (swapped both).mapper)
 
-    onward : Alike (clock (armed b w)).board (clock (armed d u)).board
+    onward : Alike (clock (armed b w)).left (clock (armed d u)).left
     onward =
         record {
           one = swapped (clock_one (swapped (clock_one both)));

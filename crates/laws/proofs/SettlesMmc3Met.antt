@@ -1,5 +1,6 @@
 -- Two histories that meet all that the theorems of `Demand3` ask of MMC3, in each mode, runs that fall short by one write and leave the boards apart, three of house
 -- mode and that of board mode without the acknowledging write, and a write that both refuse: each is computed. Assumes nothing.
+use Rattle.std.specs.Prelude.{Ok}
 use mathlib.Core.Path.{◌≡◌, refl}
 use mathlib.Core.Bool.{true, false}
 use mathlib.Core.List.{List, [], ◌∷◌, map}
@@ -10,11 +11,9 @@ use Rattle.memory.proofs.Bytes.{all_bytes, are_bytes}
 use Rattle.cartridge.specs.declared.MapperType.TheVariants.{Mmc3}
 use Rattle.boards.specs.Runs as runs
 use Rattle.boards.specs.Runs.{Lent, Call, call, after}
-use Rattle.boards.specs.declared.LoadAnswer.TheVariants.{Accepted}
 use Rattle.boards.specs.declared.Event.{Event}
 use Rattle.boards.specs.declared.Event.TheVariants.{Read, Write, Clock}
-use Rattle.boards.specs.declared.ClockAnswer.{ClockAnswer}
-use Rattle.boards.specs.declared.ClockAnswer.TheVariants.{No, Yes}
+use Rattle.boards.specs.Clock.{ClockAnswer}
 use Rattle.laws.specs.Calls.{History, reached, LentWrite, wrote}
 use Rattle.laws.specs.Clocks.{line_up}
 use Rattle.laws.specs.Demand3.{ImageOf, BothArmed, BothAcknowledged}
@@ -31,7 +30,7 @@ lent = with_rams mmc3_image
 abbrev pub others : Lent
 others = runs.lent mmc3_image (replicate 8192 7) (replicate 8192 9)
 
-pub met_loads : (mode : Mode) → (load_of mode mmc3_image).answer ≡ Accepted
+pub met_loads : (mode : Mode) → (load_of mode mmc3_image).answer ≡ Ok tt
 unfolding opened
 met_loads House = refl
 met_loads OnBoard = refl
@@ -140,27 +139,27 @@ apart x y es ticks first second =
     (irq_answers (after (reached x) (calls_of mmc3_image es)) (calls_of mmc3_image ticks) ≡ first) × (irq_answers (after (reached y) (calls_of mmc3_image es)) (calls_of mmc3_image ticks) ≡ second)
 
 -- no reload mark
-pub without_the_reload : apart (fresh House) (used House) (Write 0xC000 2 ∷ Write 0xE001 0 ∷ []) (Clock ∷ []) (Yes ∷ []) (No ∷ [])
+pub without_the_reload : apart (fresh House) (used House) (Write 0xC000 2 ∷ Write 0xE001 0 ∷ []) (Clock ∷ []) (Ok true ∷ []) (Ok false ∷ [])
 unfolding opened
 without_the_reload = (refl, refl)
 
 -- no enable
-pub without_the_enable : apart (fresh House) (used House) (Write 0xC000 0 ∷ Write 0xC001 0 ∷ []) (Clock ∷ Clock ∷ []) (No ∷ No ∷ []) (No ∷ Yes ∷ [])
+pub without_the_enable : apart (fresh House) (used House) (Write 0xC000 0 ∷ Write 0xC001 0 ∷ []) (Clock ∷ Clock ∷ []) (Ok false ∷ Ok false ∷ []) (Ok false ∷ Ok true ∷ [])
 unfolding opened
 without_the_enable = (refl, refl)
 
 -- no latch
-pub without_the_latch : apart (fresh House) (used House) (Write 0xC001 0 ∷ Write 0xE001 0 ∷ []) (Clock ∷ Clock ∷ []) (No ∷ Yes ∷ []) (No ∷ No ∷ [])
+pub without_the_latch : apart (fresh House) (used House) (Write 0xC001 0 ∷ Write 0xE001 0 ∷ []) (Clock ∷ Clock ∷ []) (Ok false ∷ Ok true ∷ []) (Ok false ∷ Ok false ∷ [])
 unfolding opened
 without_the_latch = (refl, refl)
 
 -- in board mode no acknowledging write: the line of one is up
-pub without_the_acknowledgement : apart (fresh OnBoard) (risen OnBoard) (Write 0xC000 2 ∷ Write 0xC001 0 ∷ Write 0xE001 0 ∷ []) (Clock ∷ Clock ∷ Clock ∷ []) (No ∷ No ∷ Yes ∷ []) (Yes ∷ Yes ∷ Yes ∷ [])
+pub without_the_acknowledgement : apart (fresh OnBoard) (risen OnBoard) (Write 0xC000 2 ∷ Write 0xC001 0 ∷ Write 0xE001 0 ∷ []) (Clock ∷ Clock ∷ Clock ∷ []) (Ok false ∷ Ok false ∷ (Ok true) ∷ []) (Ok true ∷ Ok true ∷ (Ok true) ∷ [])
 unfolding opened
 without_the_acknowledgement = (refl, refl)
 
 -- and with it the two agree, as computed
-pub with_the_acknowledgement : apart (fresh OnBoard) (risen OnBoard) (Write 0xE000 0 ∷ Write 0xC000 2 ∷ Write 0xC001 0 ∷ Write 0xE001 0 ∷ []) (Clock ∷ Clock ∷ Clock ∷ []) (No ∷ No ∷ Yes ∷ []) (No ∷ No ∷ Yes ∷ [])
+pub with_the_acknowledgement : apart (fresh OnBoard) (risen OnBoard) (Write 0xE000 0 ∷ Write 0xC000 2 ∷ Write 0xC001 0 ∷ Write 0xE001 0 ∷ []) (Clock ∷ Clock ∷ Clock ∷ []) (Ok false ∷ Ok false ∷ (Ok true) ∷ []) (Ok false ∷ Ok false ∷ (Ok true) ∷ [])
 unfolding opened
 with_the_acknowledgement = (refl, refl)
 

@@ -1,6 +1,7 @@
 -- A rule of a table holds at each entry where one computed test passes over all of them; the entries may be rows. Assumes nothing.
+use native.Mathlib.Omega.{arith}
 use mathlib.Core.Path.{◌∙◌, subst, sym}
-use mathlib.Core.Bool.{Bool, true, false, ◌&&◌}
+use mathlib.Core.Bool.{Bool, true, ◌&&◌}
 use mathlib.Core.List.{List, [], ◌∷◌}
 use Prim.Native.Nat.{ℕ, zero, suc, ◌+◌, ◌<◌}
 use native.Mathlib.Nat.{add-zero, zero-add, add-suc, suc-add, le_of_suc-le-suc, not-suc-le-zero}
@@ -8,12 +9,10 @@ use lib.Dec.{T}
 use lib.ListN.{length, get_or}
 
 pub left : (a b : Bool) → T (a && b) → T a
-left true b t = tt
-left false b t = t
+left a b t = grind arith
 
 pub right : (a b : Bool) → T (a && b) → T b
-right true b t = t
-right false b t = absurd t
+right a b t = grind arith
 
 -- the test f passes at each entry of the list and its place, counted from i
 abbrev pub every : {A : Type 0} → (ℕ → A → Bool) → ℕ → List A → Bool

@@ -1,7 +1,7 @@
 -- Each of the three writes sets its own field of the unit, and only a later latch, a clock and a disabling write would undo it, so in whatever order they
 -- come the board is ready at the end, and the clock rules hold from there: house mode's, board mode's of raising, and, where the line is low, that of its level.
 -- Assumes nothing.
-use Prim.Native.Nat.{ℕ, zero, suc, ◌+◌, ◌-◌, ◌≤◌, ◌<◌, ◌∣◌}
+use Prim.Native.Nat.{ℕ, ◌+◌, ◌-◌, ◌≤◌, ◌<◌, ◌∣◌}
 use mathlib.Core.Path.{◌≡◌, refl, sym, ap, ◌∙◌}
 use mathlib.Core.Logic.{◌↔◌}
 use mathlib.Core.Bool.{true, false}
@@ -14,7 +14,7 @@ use Rattle.mmc3.specs.Clock.{clock_in, with_irq, clocked}
 use Rattle.mmc3.specs.Write.{applied}
 use Rattle.mmc3.specs.declared.Irq.{Irq}
 use Rattle.mmc3.specs.declared.Mmc3 as mmc3-type
-use Rattle.mmc3.specs.declared.Move.TheVariants.{Nothing, Select, Data, Screens, Protect, Latch, Reload, Enable, Disable}
+use Rattle.mmc3.specs.declared.Move.TheVariants.{Latch, Reload, Enable, Disable}
 use Rattle.boards.specs.Runs.{lent, Call, call, after}
 use Rattle.boards.specs.declared.Board.{Board}
 use Rattle.boards.specs.declared.Event.TheVariants.{Write, Clock}
@@ -24,26 +24,16 @@ use Rattle.laws.specs.Deeds.Deed.{rests, writes, clocks}
 use Rattle.laws.specs.PLines.{mmc3 as mmc3_image, ram, load_of, calls_of}
 use Rattle.laws.specs.ThreeWrites.{Written}
 use Rattle.laws.proofs.Clocks.{clock_keeps}
-use Rattle.laws.proofs.Deeds.{plays_after, mmc3_after, made, a_write}
+use Rattle.laws.proofs.Deeds.{plays_after, mmc3_after, made}
 use Rattle.laws.proofs.Opened.{opened}
 use Rattle.laws.proofs.PublicClocks.{house_rule, board_rule, board_raises}
 
 -- five deeds touch the unit: what each of them keeps, every deed keeps
 by_deed : (P : Irq → Type 0) (mode : Mode) (d : Deed) (m : mmc3-type.Mmc3) → P m.irq → ((v : ℕ) → d ≡ writes (Latch v) → P (applied mode (Latch v) m).irq)
     → (d ≡ writes Reload → P (applied mode Reload m).irq) → (d ≡ writes Enable → P (applied mode Enable m).irq) → (d ≡ writes Disable → P (applied mode Disable m).irq)
-    → (d ≡ clocks → P (clock_in mode m.irq).irq) → P (mmc3_after mode d m).irq
+    → (d ≡ clocks → P (clock_in mode m.irq).left) → P (mmc3_after mode d m).irq
 unfolding applied clocked with_irq
-by_deed P mode rests m h latch reload enable disable clock = h
-by_deed P mode (writes Nothing) m h latch reload enable disable clock = h
-by_deed P mode (writes (Select v)) m h latch reload enable disable clock = h
-by_deed P mode (writes (Data v)) m h latch reload enable disable clock = h
-by_deed P mode (writes (Screens v)) m h latch reload enable disable clock = h
-by_deed P mode (writes (Protect v)) m h latch reload enable disable clock = h
-by_deed P mode (writes (Latch v)) m h latch reload enable disable clock = latch v refl
-by_deed P mode (writes Reload) m h latch reload enable disable clock = reload refl
-by_deed P mode (writes Enable) m h latch reload enable disable clock = enable refl
-by_deed P mode (writes Disable) m h latch reload enable disable clock = disable refl
-by_deed P mode clocks m h latch reload enable disable clock = clock refl
+by_deed P mode d m h latch reload enable disable clock = grind arith
 
 latch_stays : (mode : Mode) (n : ℕ) (d : Deed) (m : mmc3-type.Mmc3) → ((v : ℕ) → d ≡ writes (Latch v) → ⊥) → m.irq.latch ≡ n → (mmc3_after mode d m).irq.latch ≡ n
 unfolding applied with_irq
@@ -68,13 +58,13 @@ three_writes_ready mode b p cs n w =
     record {
       plays = plays_after p cs;
       latch =
-          made (λ (m : mmc3-type.Mmc3). m.irq.latch ≡ n) (λ (d : Deed). (v : ℕ) → d ≡ writes (Latch v) → ⊥) (latch_stays mode n) (writes (Latch n)) (a_write (Latch n)) (λ m. refl)
+          made (λ (m : mmc3-type.Mmc3). m.irq.latch ≡ n) (λ (d : Deed). (v : ℕ) → d ≡ writes (Latch v) → ⊥) (latch_stays mode n) (writes (Latch n)) (λ e. cc) (λ m. refl)
           b p cs w.latch w.latch_written (λ j h v. w.no_latch_after v j h);
       reload =
-          made (λ (m : mmc3-type.Mmc3). m.irq.reload ≡ true) (λ (d : Deed). d ≡ clocks → ⊥) (reload_stays mode) (writes Reload) (a_write Reload) (λ m. refl)
+          made (λ (m : mmc3-type.Mmc3). m.irq.reload ≡ true) (λ (d : Deed). d ≡ clocks → ⊥) (reload_stays mode) (writes Reload) (λ e. cc) (λ m. refl)
           b p cs w.reload w.reload_written w.no_clock_after;
       enabled =
-          made (λ (m : mmc3-type.Mmc3). m.irq.enabled ≡ true) (λ (d : Deed). d ≡ writes Disable → ⊥) (enabled_stays mode) (writes Enable) (a_write Enable) (λ m. refl)
+          made (λ (m : mmc3-type.Mmc3). m.irq.enabled ≡ true) (λ (d : Deed). d ≡ writes Disable → ⊥) (enabled_stays mode) (writes Enable) (λ e. cc) (λ m. refl)
           b p cs w.enable w.enable_written w.no_disable_after;
     }
 
@@ -98,31 +88,16 @@ abbrev done : List Deed
 done = clocks ∷ writes Enable ∷ writes Reload ∷ writes (Latch 2) ∷ rests ∷ []
 
 no_latch : (v j : ℕ) → 3 < j → get_or done j rests ≡ writes (Latch v) → ⊥
-no_latch v zero h e = absurd (omega arith)
-no_latch v (suc zero) h e = absurd (omega arith)
-no_latch v (suc (suc zero)) h e = absurd (omega arith)
-no_latch v (suc (suc (suc zero))) h e = absurd (omega arith)
-no_latch v (suc (suc (suc (suc zero)))) h e = let z : ◌≡◌ {A = ℕ} 0 1 = cc in omega arith
-no_latch v (suc (suc (suc (suc (suc j))))) h e = let z : ◌≡◌ {A = ℕ} 0 1 = cc in omega arith
+no_latch v j h e = grind arith
 
 no_clock : (j : ℕ) → 2 < j → get_or done j rests ≡ clocks → ⊥
-no_clock zero h e = absurd (omega arith)
-no_clock (suc zero) h e = absurd (omega arith)
-no_clock (suc (suc zero)) h e = absurd (omega arith)
-no_clock (suc (suc (suc zero))) h e = let z : ◌≡◌ {A = ℕ} 0 1 = cc in omega arith
-no_clock (suc (suc (suc (suc zero)))) h e = let z : ◌≡◌ {A = ℕ} 0 1 = cc in omega arith
-no_clock (suc (suc (suc (suc (suc j))))) h e = let z : ◌≡◌ {A = ℕ} 0 1 = cc in omega arith
+no_clock j h e = grind arith
 
 no_disable : (j : ℕ) → 1 < j → get_or done j rests ≡ writes Disable → ⊥
-no_disable zero h e = absurd (omega arith)
-no_disable (suc zero) h e = absurd (omega arith)
-no_disable (suc (suc zero)) h e = let z : ◌≡◌ {A = ℕ} 0 1 = cc in omega arith
-no_disable (suc (suc (suc zero))) h e = let z : ◌≡◌ {A = ℕ} 0 1 = cc in omega arith
-no_disable (suc (suc (suc (suc zero)))) h e = let z : ◌≡◌ {A = ℕ} 0 1 = cc in omega arith
-no_disable (suc (suc (suc (suc (suc j))))) h e = let z : ◌≡◌ {A = ℕ} 0 1 = cc in omega arith
+no_disable j h e = grind arith
 
 abbrev pub fresh : Mode → Board
-fresh mode = (load_of mode mmc3_image).board
+fresh mode = (load_of mode mmc3_image).left
 
 abbrev pub calls : List Call
 calls = calls_of mmc3_image (Clock ∷ Write 0xE001 0 ∷ Write 0xC001 0 ∷ Write 0xC000 2 ∷ []) ++ call (lent mmc3_image [] ram) (Write 0xE000 0) ∷ []
@@ -148,8 +123,7 @@ met_writes mode =
 
 pub plays : (mode : Mode) → Plays mode (fresh mode)
 unfolding opened
-plays House = record { in_mode = refl; is_mmc3 = refl; is_in_range = refl }
-plays OnBoard = record { in_mode = refl; is_mmc3 = refl; is_in_range = refl }
+plays mode = grind arith
 
 -- so in house mode clock k answers yes exactly when k is 2 or more and 3 divides k - 1
 pub met : (k : ℕ) → (says_yes k (after (fresh House) calls) ≡ true) ↔ ((2 ≤ k) × (3 ∣ k - 1))

@@ -1,4 +1,5 @@
 -- Bytes after the data are ignored: a load looks at the header and the length, and every place of a read lies before the end of the data. Assumes nothing.
+use Rattle.std.specs.Prelude.{Ok, Err}
 use Prim.Native.Nat.{ℕ, ◌+◌, ◌<◌, ◌≤◌}
 use mathlib.Core.Path.{◌≡◌, refl, sym, ap, ap₂, ◌∙◌, subst⁻¹}
 use mathlib.Core.Bool.{Bool, true, false}
@@ -12,13 +13,11 @@ use Rattle.memory.specs.Memory.{byte}
 use Rattle.cartridge.specs.Header.{is_ines, header_of}
 use Rattle.cartridge.specs.Load.{needed, rams_fit, verdict, cartridge_of, loaded_as, ram_after, prg_total, prg_rom, chr_rom}
 use Rattle.cartridge.specs.declared.Cartridge.{Cartridge}
-use Rattle.cartridge.specs.declared.Verdict.{Verdict}
-use Rattle.cartridge.specs.declared.Verdict.TheVariants.{Take, Refuse}
+use Rattle.cartridge.specs.Refusals.{Verdict}
 use Rattle.places.specs.Places.{byte_of, byte_at, answer_at}
 use Rattle.places.specs.declared.Place.TheVariants.{Prg, Chr, PrgRam, ChrRam, Nowhere}
-use Rattle.places.specs.declared.Landing.{Landing}
-use Rattle.places.specs.declared.Landing.TheVariants.{At, Refused}
-use Rattle.boards.specs.Start.{start_of, loaded_board}
+use Rattle.places.specs.Places.{Landing}
+use Rattle.boards.specs.Start.{start_of, loaded_board, load, load_answer, board_of}
 use Rattle.boards.specs.Range.{in_range, is_loaded, guarded}
 use Rattle.boards.specs.Read.{read_landing}
 use Rattle.boards.specs.Read as reads
@@ -29,8 +28,6 @@ use Rattle.boards.specs.declared.Event.{Event}
 use Rattle.boards.specs.declared.Event.TheVariants.{Read, Write, Clock}
 use Rattle.boards.specs.declared.Answer.{Answer}
 use Rattle.boards.specs.declared.Answer.TheVariants.{Read as toRead, Write as toWrite}
-use Rattle.boards.specs.declared.LoadAnswer.TheVariants.{Accepted}
-use Rattle.boards.specs.declared.Loaded.{Loaded}
 use Rattle.laws.specs.Calls.{load_with}
 use Rattle.laws.specs.PLines.{nrom, ram}
 use Rattle.laws.specs.Within.{Lies}
@@ -81,10 +78,10 @@ trailing_bytes_change_no_load mode s t prg chr e =
     let v = same_verdict (images_end mode s) s t e h mode (length prg) (length chr) in
     let c : cartridge_of (header_of t) mode (length t) ≡ cartridge_of (header_of s) mode (length s)
     = ap₂ (λ x n. cartridge_of x mode n) (same_header (images_end mode s) s t e h) e.one_length in
-    let z : load_with mode t prg chr ≡ load_with mode s prg chr = ap₂ (λ (x : Verdict) (y : Cartridge). loaded_board (loaded_as x y)) v c in
+    let z : load t mode (length prg) (length chr) ≡ load s mode (length prg) (length chr) = ap₂ (λ (x : Verdict) (y : Cartridge). loaded_board (loaded_as x y)) v c in
     record {
-      the_answer = ap (λ (x : Loaded). x.answer) z;
-      the_board = ap (λ (x : Loaded). x.board) z;
+      the_answer = ap load_answer z;
+      the_board = ap board_of z;
       the_prg_ram = ap (λ (x : Verdict). ram_after x prg) v;
       the_chr_ram = ap (λ (x : Verdict). ram_after x chr) v;
     }
@@ -92,22 +89,21 @@ trailing_bytes_change_no_load mode s t prg chr e =
 -- the byte at a place that lies inside what it names
 byte_alike : (c : Cartridge) (p : Landing) (s t prg chr : List ℕ) → EqualUpTo (needed c.prg c.chr) s t → Lies c p → byte_at c p t prg chr ≡ byte_at c p s prg chr
 unfolding byte_at byte_of prg_rom chr_rom
-byte_alike c (At (Prg i)) s t prg chr e h =
+byte_alike c (Ok (Prg i)) s t prg chr e h =
     get_or-drop 16 t i 0 ∙ same_byte (needed c.prg c.chr) (16 + i) s t e (omega (arith, h.0)) ∙ sym (get_or-drop 16 s i 0)
-byte_alike c (At (Chr i)) s t prg chr e h =
+byte_alike c (Ok (Chr i)) s t prg chr e h =
     get_or-drop (16 + prg_total c) t i 0
     ∙ same_byte (needed c.prg c.chr) (16 + prg_total c + i) s t e (omega (arith, h.0))
     ∙ sym (get_or-drop (16 + prg_total c) s i 0)
-byte_alike c (At (PrgRam i)) s t prg chr e h = refl
-byte_alike c (At (ChrRam i)) s t prg chr e h = refl
-byte_alike c (At Nowhere) s t prg chr e h = refl
-byte_alike c (Refused why) s t prg chr e h = refl
+byte_alike c (Ok (PrgRam i)) s t prg chr e h = refl
+byte_alike c (Ok (ChrRam i)) s t prg chr e h = refl
+byte_alike c (Ok Nowhere) s t prg chr e h = refl
+byte_alike c (Err why) s t prg chr e h = refl
 
 -- a board out of range answers no byte
 no_byte : (rams : Bool) (p : Landing) (v w : ℕ) → answer_at (guarded rams false p) v ≡ answer_at (guarded rams false p) w
 unfolding answer_at guarded
-no_byte true p v w = refl
-no_byte false p v w = refl
+no_byte rams p v w = grind arith
 
 module _ (b : Board) (l : Lent) (t : List ℕ) (e : EqualUpTo (boards_end b) l.image t) where
   judged : is_loaded b (length t) ≡ is_loaded b (length l.image)
@@ -135,16 +131,14 @@ module _ (b : Board) (l : Lent) (t : List ℕ) (e : EqualUpTo (boards_end b) l.i
   trailing_bytes_change_no_call (Write a v) =
       record {
         the_answer = ap (λ (p : Landing). toWrite (written_as b p v a).answer) (lands_alike a);
-        the_next_board = ap (λ (p : Landing). (written_as b p v a).board) (lands_alike a);
+        the_next_board = ap (λ (p : Landing). (written_as b p v a).left) (lands_alike a);
         the_buffers = rw (lands_alike a) refl;
       }
   trailing_bytes_change_no_call Clock = record { the_answer = refl; the_next_board = refl; the_buffers = refl }
 
 image_stays : (b : Board) (l : Lent) (x : Event) → (left b l x).image ≡ l.image
 unfolding left
-image_stays b l (Read a) = refl
-image_stays b l (Write a v) = refl
-image_stays b l Clock = refl
+image_stays b l x = grind arith
 
 -- what holds of the buffers and the board before an event holds after it
 still_equal : (b : Board) (l : Lent) (t : List ℕ) (x : Event) → EqualUpTo (boards_end b) l.image t → EqualUpTo (boards_end (next b l x)) (left b l x).image t
@@ -167,16 +161,15 @@ trailing_bytes_change_no_run b l t e (x ∷ es) =
     }
 
 -- and a run from the load on, with whatever is in both RAMs
-loaded_counts : (w : Verdict) (s : List ℕ) (mode : Mode) → (loaded_board (loaded_as w (cartridge_of (header_of s) mode (length s)))).answer ≡ Accepted
-    → boards_end (loaded_board (loaded_as w (cartridge_of (header_of s) mode (length s)))).board ≡ images_end mode s
-unfolding loaded_board loaded_as start_of cartridge_of header_of
-loaded_counts Take s mode e = refl
-loaded_counts (Refuse why) s mode e = absurd (let z : ◌≡◌ {A = ℕ} 0 1 = cc in omega arith)
+loaded_counts : (w : Verdict) (s : List ℕ) (mode : Mode) → load_answer (loaded_board (loaded_as w (cartridge_of (header_of s) mode (length s)))) ≡ Ok tt
+    → boards_end (board_of (loaded_board (loaded_as w (cartridge_of (header_of s) mode (length s))))) ≡ images_end mode s
+unfolding loaded_board load_answer board_of loaded_as start_of cartridge_of header_of
+loaded_counts w s mode e = grind arith
 
-pub trailing_bytes_change_nothing_after_a_load : (mode : Mode) (s t prg chr : List ℕ) → EqualUpTo (images_end mode s) s t → (load_with mode s prg chr).answer ≡ Accepted
-    → (prg' chr' : List ℕ) (es : List Event) → PlayedAlike (load_with mode s prg chr).board (lent s prg' chr') t es
+pub trailing_bytes_change_nothing_after_a_load : (mode : Mode) (s t prg chr : List ℕ) → EqualUpTo (images_end mode s) s t → (load_with mode s prg chr).answer ≡ Ok tt
+    → (prg' chr' : List ℕ) (es : List Event) → PlayedAlike (load_with mode s prg chr).left (lent s prg' chr') t es
 trailing_bytes_change_nothing_after_a_load mode s t prg chr e h prg' chr' es =
-    trailing_bytes_change_no_run (load_with mode s prg chr).board (lent s prg' chr') t
+    trailing_bytes_change_no_run (load_with mode s prg chr).left (lent s prg' chr') t
     (subst⁻¹ (λ (n : ℕ). EqualUpTo n s t) (loaded_counts (verdict s mode (length prg) (length chr)) s mode h) e) es
 
 -- two such images: eight bytes follow the data of an NROM image, zeros in one and ones in the other, and both load
@@ -191,7 +184,7 @@ unfolding opened
 met House = record { one_length = refl; one_start = refl }
 met OnBoard = record { one_length = refl; one_start = refl }
 
-pub met_accepted : (mode : Mode) → (load_with mode with_zeros ram ram).answer ≡ Accepted
+pub met_accepted : (mode : Mode) → (load_with mode with_zeros ram ram).answer ≡ Ok tt
 unfolding opened
 met_accepted House = refl
 met_accepted OnBoard = refl

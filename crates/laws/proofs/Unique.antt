@@ -64,7 +64,7 @@ module _ (κs : _) (a : _) (r r' : _) (s s' : _) (p : board-clock.Post κs a r s
 
 module _ (κs : _) (a : _) (r r' : _) (s s' : _) (p : board-play.Post κs a r s) (q : board-play.Post κs a r' s') where
   pub play_reply : r ≡ r'
-  play_reply = λ i. record { board = ((p.moves ∙ sym q.moves) i).board; answer = (p.says ∙ sym q.says) i }
+  play_reply = λ i. record { left = ((p.moves ∙ sym q.moves) i).board; answer = (p.says ∙ sym q.says) i }
 
   pub play_prg : s.1.1.1.0.now ≡ s'.1.1.1.0.now
   play_prg = ap (λ (m : Moment). m.lent.prg) (p.moves ∙ sym q.moves)

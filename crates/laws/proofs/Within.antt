@@ -1,21 +1,22 @@
 -- For a board in range every place of a read or a write lies inside what it names, since a bank that ends past its data is refused.
 -- In board mode none is refused, by the modulo rule, and a byte is stored where it would be read, if that is RAM and not denied. Assumes nothing.
+use Rattle.std.specs.Prelude.{Option, Some, None, Ok}
 use Prim.Native.Nat.{ℕ, ◌+◌, ◌*◌, ◌/◌, ◌%◌, ◌≤◌, ◌<◌}
 use mathlib.Core.Path.{◌≡◌, refl, sym, ◌∙◌, subst⁻¹}
-use mathlib.Core.Bool.{Bool, true, false, cond, not, ◌&&◌, ◌||◌}
+use mathlib.Core.Bool.{Bool, true, false, cond, not, ◌&&◌}
 use native.Mathlib.Omega.{arith}
 use lib.Dec.{ltb, leb, eqb}
 use borrow.Author.Tests.{leb-true, eqb-false}
-use Rattle.rules.proofs.Bools.{split_3, either}
+use Rattle.std.proofs.lemmas.Bool.Decides.{nat_tests}
+use Rattle.std.proofs.lemmas.Bool.{cond_both}
+use Rattle.rules.proofs.Bools.{either}
 use Rattle.common.specs.Common.{KB1, KB4, KB8, KB16}
 use Rattle.common.specs.declared.Mode.{Mode}
 use Rattle.common.specs.declared.Mode.TheVariants.{Board as OnBoard}
 use Rattle.banks.specs.Banks.{shown, start_at, bank_start}
-use Rattle.banks.specs.declared.Start.{Start}
-use Rattle.banks.specs.declared.Start.TheVariants.{At, PastEnd}
 use Rattle.banks.proofs.Range.{modulo_rule}
-use Rattle.cartridge.specs.Load.{bad_prg, could_load, prg_total, chr_total, has_chr_ram, last_prg}
-use Rattle.cartridge.specs.Mappers.{mapper_number, is_mapper}
+use Rattle.cartridge.specs.Load.{bad_prg, prg_total, chr_total, has_chr_ram, last_prg}
+use Rattle.cartridge.specs.Mappers.{is_mapper}
 use Rattle.cartridge.specs.declared.Cartridge.{Cartridge}
 use Rattle.cartridge.specs.declared.MapperType.{MapperType}
 use Rattle.cartridge.specs.declared.MapperType.TheVariants.{Nrom, Mmc1, Uxrom, Cnrom, Mmc3}
@@ -24,10 +25,8 @@ use Rattle.places.specs.Places.{prg_at, chr_at, in_prg, in_chr}
 use Rattle.places.specs.Windows.{Window, lands_in, fixed_block, fixed_prg, board_chr, board_chr_ram, prg_ram_of, in_windows}
 use Rattle.places.specs.Windows.Window.{Prg16K, Prg8K, Chr8K, Chr4K, Chr1K, PrgRam, ChrRam, Empty, Refused}
 use Rattle.places.specs.Steps.{if_chr_ram}
-use Rattle.places.specs.declared.Place.TheVariants as place
 use Rattle.places.specs.declared.Place.TheVariants.{Nowhere}
-use Rattle.places.specs.declared.Landing.{Landing}
-use Rattle.places.specs.declared.Landing.TheVariants.{At as InPlace, Refused as NotLanded}
+use Rattle.places.specs.Places.{Landing}
 use Rattle.places.proofs.Windows.{lands_in_ram}
 use Rattle.nrom.specs.Nrom as nrom
 use Rattle.uxrom.specs.Uxrom as uxrom
@@ -36,14 +35,13 @@ use Rattle.mmc1.specs.Read as mmc1
 use Rattle.mmc3.specs.Ram.{ram_start, ram_read, ram_written}
 use Rattle.mmc3.specs.Read as mmc3
 use Rattle.mmc3.specs.declared.RamMarks.{RamMarks}
-use Rattle.boards.specs.Registers.{fits}
-use Rattle.boards.specs.Range.{mirroring_fits, in_range}
+use Rattle.boards.specs.Range.{in_range}
 use Rattle.boards.specs.Read.{read_window_on, read_landing}
 use Rattle.boards.specs.Write.{write_window_on, write_landing}
 use Rattle.boards.specs.declared.Board.{Board}
 use Rattle.boards.specs.declared.Registers.{Registers}
 use Rattle.laws.specs.Within.{Lies, writes_denied, ram_at, Found}
-use Rattle.laws.proofs.Cases.{by_test, alike}
+use Rattle.laws.proofs.Cases.{alike}
 
 -- what the range of a board says of its cartridge: some PRG, and room for all blocks
 record Roomy (c : Cartridge) : Type 0 where
@@ -54,18 +52,9 @@ roomy : (b : Board) → in_range b ≡ true → Roomy b.cart
 unfolding in_range bad_prg
 roomy b h =
     let c = b.cart in
-    let f = fields c (split_3 (could_load c) (fits b.cart.mapper b.cart.mode b.registers) (mirroring_fits b) h).0 in
-    record {
-      some = nonzero c.prg ((eqb (mapper_number c.mapper) 0 || eqb (mapper_number c.mapper) 3) && ltb 2 c.prg) f.prg_taken;
-      room = f.room;
-    }
-  where
-    first : (x y : Bool) → (x || y) ≡ false → x ≡ false
-    first true y e = e
-    first false y e = refl
-
-    nonzero : (p : ℕ) (y : Bool) → (eqb p 0 || y) ≡ false → 0 < p
-    nonzero p y e = let n : p ≡ 0 → ⊥ = eqb-false p 0 (first (eqb p 0) y e) in omega arith
+    let f = fields c (grind arith) in
+    let taken = f.prg_taken in
+    record { some = grind (arith, nat_tests); room = f.room }
 
 -- the two kinds of place, for any bank size
 module _ (c : Cartridge) (r : Roomy c) (size n i : ℕ) (h : i < size) where
@@ -73,7 +62,7 @@ module _ (c : Cartridge) (r : Roomy c) (size n i : ℕ) (h : i < size) where
   unfolding in_prg prg_at bank_start start_at
   prg_lies = go (leb (shown c.mode n (prg_total c / size) * size + size) (prg_total c)) refl
     where
-      go : (t : Bool) → leb (shown c.mode n (prg_total c / size) * size + size) (prg_total c) ≡ t → Lies c (prg_at (cond t (At (shown c.mode n (prg_total c / size) * size)) PastEnd) i)
+      go : (t : Bool) → leb (shown c.mode n (prg_total c / size) * size + size) (prg_total c) ≡ t → Lies c (prg_at (cond t (Some (shown c.mode n (prg_total c / size) * size)) None) i)
       go true e = omega (arith, leb-true (shown c.mode n (prg_total c / size) * size + size) (prg_total c) e, r.room)
       go false e = tt
 
@@ -82,7 +71,7 @@ module _ (c : Cartridge) (r : Roomy c) (size n i : ℕ) (h : i < size) where
   chr_lies = go (eqb c.chr 0) refl (leb (shown c.mode n (chr_total c / size) * size + size) (chr_total c)) refl
     where
       go : (ram : Bool) → eqb c.chr 0 ≡ ram → (t : Bool) → leb (shown c.mode n (chr_total c / size) * size + size) (chr_total c) ≡ t
-          → Lies c (chr_at ram (cond t (At (shown c.mode n (chr_total c / size) * size)) PastEnd) i)
+          → Lies c (chr_at ram (cond t (Some (shown c.mode n (chr_total c / size) * size)) None) i)
       go true f true e =
           let d : chr_total c ≡ KB8 = rw f refl in
           omega (arith, leb-true (shown c.mode n (chr_total c / size) * size + size) (chr_total c) e)
@@ -134,18 +123,18 @@ module _ (c : Cartridge) (r : Roomy c) (e : c.mode ≡ OnBoard) where
   prg_found size n i p h =
       let f : size ≤ prg_total c = omega (arith, r.some) in
       subst⁻¹ (λ (m : Mode). Found (prg_at (bank_start m n size (prg_total c)) i)) e
-      (subst⁻¹ (λ (s : Start). Found (prg_at s i)) (modulo_rule n size (prg_total c) p f).start tt)
+      (subst⁻¹ (λ (s : Option ℕ). Found (prg_at s i)) (modulo_rule n size (prg_total c) p f).start tt)
 
   some_chr : KB8 ≤ chr_total c
   unfolding chr_total
-  some_chr = by_test (λ (t : ℕ). KB8 ≤ t) (has_chr_ram c) (λ f. omega arith) (λ f. let n : c.chr ≡ 0 → ⊥ = eqb-false c.chr 0 f in omega arith)
+  some_chr = cond_both (has_chr_ram c) _ _ (λ (t : ℕ). KB8 ≤ t) (λ f. omega arith) (λ f. let n : c.chr ≡ 0 → ⊥ = eqb-false c.chr 0 f in omega arith)
 
   chr_found : (size n i : ℕ) → 0 < size → size ≤ KB8 → Found (in_chr c size n i)
   unfolding in_chr chr_at
   chr_found size n i p h =
       let f : size ≤ chr_total c = omega (arith, some_chr) in
       subst⁻¹ (λ (m : Mode). Found (chr_at (has_chr_ram c) (bank_start m n size (chr_total c)) i)) e
-      (subst⁻¹ (λ (s : Start). Found (chr_at (has_chr_ram c) s i)) (modulo_rule n size (chr_total c) p f).start (either Found (has_chr_ram c) tt tt))
+      (subst⁻¹ (λ (s : Option ℕ). Found (chr_at (has_chr_ram c) s i)) (modulo_rule n size (chr_total c) p f).start (either Found (has_chr_ram c) tt tt))
 
   found_in : (w : Window) → Opens w → (a : ℕ) → Found (lands_in c w a)
   unfolding lands_in
@@ -186,19 +175,15 @@ module _ (c : Cartridge) (r : Roomy c) (e : c.mode ≡ OnBoard) where
     abbrev Stores : Window → Window → Type 0
     Stores w v = lands_in c w a ≡ ram_at denied (lands_in c v a)
 
-    no_rom : (s : Start) (i : ℕ) → Found (prg_at s i) → InPlace Nowhere ≡ ram_at denied (prg_at s i)
+    no_rom : (s : Option ℕ) (i : ℕ) → Found (prg_at s i) → Ok Nowhere ≡ ram_at denied (prg_at s i)
     unfolding prg_at
-    no_rom (At s) i f = refl
-    no_rom PastEnd i f = absurd f
+    no_rom s i f = grind arith
 
-    if_ram : (ram : Bool) (s : Start) (i : ℕ) → Found (chr_at ram s i) → cond ram (chr_at ram s i) (InPlace Nowhere) ≡ ram_at denied (chr_at ram s i)
+    if_ram : (ram : Bool) (s : Option ℕ) (i : ℕ) → Found (chr_at ram s i) → cond ram (chr_at ram s i) (Ok Nowhere) ≡ ram_at denied (chr_at ram s i)
     unfolding chr_at
-    if_ram true (At s) i f = refl
-    if_ram false (At s) i f = refl
-    if_ram true PastEnd i f = absurd f
-    if_ram false PastEnd i f = absurd f
+    if_ram ram s i f = grind arith
 
-    prg_ignores : (size n : ℕ) → 0 < size → size ≤ KB16 → InPlace Nowhere ≡ ram_at denied (in_prg c size n (a % size))
+    prg_ignores : (size n : ℕ) → 0 < size → size ≤ KB16 → Ok Nowhere ≡ ram_at denied (in_prg c size n (a % size))
     unfolding in_prg
     prg_ignores size n p h = no_rom (bank_start c.mode n size (prg_total c)) (a % size) (prg_found size n (a % size) p h)
 
@@ -271,12 +256,7 @@ module _ (c : Cartridge) (r : Roomy c) (e : c.mode ≡ OnBoard) where
 
 -- no refusal comes of leaving ROM out
 still_found : (denied : Bool) (l : Landing) → Found l → Found (ram_at denied l)
-still_found denied (InPlace (place.Prg i)) f = tt
-still_found denied (InPlace (place.Chr i)) f = tt
-still_found denied (InPlace (place.PrgRam i)) f = either Found denied tt tt
-still_found denied (InPlace (place.ChrRam i)) f = tt
-still_found denied (InPlace Nowhere) f = tt
-still_found denied (NotLanded why) f = absurd f
+still_found denied l f = grind arith
 
 module _ (b : Board) (e : b.cart.mode ≡ OnBoard) (ok : in_range b ≡ true) (a : ℕ) where
   pub board_reads : Found (read_landing b a)

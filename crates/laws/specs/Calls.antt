@@ -1,25 +1,21 @@
 -- Demand 3, what the two boards are given: a history, writes, and the same calls.
-use Rattle.std.specs.Prelude.{ℕ, ◌≡◌, Bool, true, false, List, [], map, length, replicate}
+use Rattle.std.specs.Prelude.{ℕ, ◌≡◌, Bool, true, false, List, [], map, length, replicate, Some, None, Ok, Err}
 use Rattle.common.specs.declared.Mode.{Mode}
 use Rattle.cartridge.specs.Load.{verdict, ram_after}
 use Rattle.cartridge.specs.declared.MapperType.{MapperType}
-use Rattle.places.specs.declared.ReadAnswer.TheVariants.{Byte, Refused as NoByte}
 use Rattle.boards.specs.Range.{in_range}
-use Rattle.boards.specs.Start.{load}
+use Rattle.boards.specs.Start.{LoadAnswer, load, board_of, load_answer}
 use Rattle.boards.specs.Runs.{Lent, lent, Call, call, next, after}
 use Rattle.boards.specs.declared.Board.{Board}
 use Rattle.boards.specs.declared.Event.{Event}
 use Rattle.boards.specs.declared.Event.TheVariants.{Read, Write, Clock}
 use Rattle.boards.specs.declared.Answer.{Answer}
 use Rattle.boards.specs.declared.Answer.TheVariants.{Read as toRead, Write as toWrite, Clock as toClock}
-use Rattle.boards.specs.declared.WriteAnswer.TheVariants.{Quiet, Notice, Refused as NotWritten}
-use Rattle.boards.specs.declared.ClockAnswer.TheVariants.{No, Yes, Refused as NotClocked}
-use Rattle.boards.specs.declared.Loaded.{Loaded}
-use Rattle.boards.specs.declared.LoadAnswer.TheVariants.{Accepted}
+use Rattle.common.specs.declared.Outcome.{Outcome}
 
--- the load of an image, with two RAMs lent
-abbrev pub load_with : Mode → List ℕ → List ℕ → List ℕ → Loaded
-load_with mode s prg chr = load s mode (length prg) (length chr)
+-- the load of an image, with two RAMs lent: its board, or the one that stands for none, and its answer
+abbrev pub load_with : Mode → List ℕ → List ℕ → List ℕ → Outcome Board LoadAnswer
+load_with mode s prg chr = let l = load s mode (length prg) (length chr) in record { left = board_of l; answer = load_answer l }
 
 -- a RAM as a load of an image leaves it, with both RAMs lent
 abbrev pub ram_left : Mode → List ℕ → List ℕ → List ℕ → List ℕ → List ℕ
@@ -29,12 +25,12 @@ ram_left mode s prg chr ram = ram_after (verdict s mode (length prg) (length chr
 pub record History (mode : Mode) (s : List ℕ) : Type 0 where
   pub prg : List ℕ
   pub chr : List ℕ
-  pub accepted : (load_with mode s prg chr).answer ≡ Accepted
+  pub accepted : (load_with mode s prg chr).answer ≡ Ok tt
   pub calls : List Call
 
 -- the board at the end of a history
 abbrev pub reached : {mode : Mode} {s : List ℕ} → History mode s → Board
-reached {mode} {s} h = after (load_with mode s h.prg h.chr).board h.calls
+reached {mode} {s} h = after (load_with mode s h.prg h.chr).left h.calls
 
 -- "two boards of one image and mode", with this mapper: any two histories leave such boards
 pub record OneImage (k : MapperType) (b d : Board) : Type 0 where
@@ -45,14 +41,14 @@ pub record OneImage (k : MapperType) (b d : Board) : Type 0 where
 
 -- whether an answer is a refusal
 abbrev pub is_refusal : Answer → Bool
-is_refusal (toRead (Byte v)) = false
-is_refusal (toRead (NoByte why)) = true
-is_refusal (toWrite Quiet) = false
-is_refusal (toWrite (Notice m)) = false
-is_refusal (toWrite (NotWritten why)) = true
-is_refusal (toClock No) = false
-is_refusal (toClock Yes) = false
-is_refusal (toClock (NotClocked why)) = true
+is_refusal (toRead (Ok v)) = false
+is_refusal (toRead (Err why)) = true
+is_refusal (toWrite (Ok None)) = false
+is_refusal (toWrite (Ok (Some m))) = false
+is_refusal (toWrite (Err why)) = true
+is_refusal (toClock (Ok false)) = false
+is_refusal (toClock (Ok true)) = false
+is_refusal (toClock (Err why)) = true
 
 -- a write, with the buffers lent to it
 pub record LentWrite : Type 0 where

@@ -1,13 +1,12 @@
 -- Runs of clocks on an MMC3 board, and the level of its line.
-use Rattle.std.specs.Prelude.{ℕ, zero, suc, ◌≡◌, Bool, true, false}
+use Rattle.std.specs.Prelude.{ℕ, zero, suc, ◌≡◌, Bool, true, false, Ok, Err}
 use Rattle.common.specs.declared.Mode.{Mode}
 use Rattle.cartridge.specs.declared.MapperType.TheVariants.{Mmc3}
 use Rattle.mmc3.specs.Clock.{board_clock}
 use Rattle.boards.specs.Range.{in_range}
 use Rattle.boards.specs.Clock.{clock}
 use Rattle.boards.specs.declared.Board.{Board}
-use Rattle.boards.specs.declared.ClockAnswer.{ClockAnswer}
-use Rattle.boards.specs.declared.ClockAnswer.TheVariants.{No, Yes, Refused}
+use Rattle.boards.specs.Clock.{ClockAnswer}
 
 -- an MMC3 board in range, in this mode
 pub record Plays (mode : Mode) (b : Board) : Type 0 where
@@ -25,13 +24,13 @@ pub record Ready (mode : Mode) (n : ℕ) (b : Board) : Type 0 where
 -- the board after k clocks, "and nothing after"
 abbrev pub ticked : ℕ → Board → Board
 ticked zero b = b
-ticked (suc k) b = (clock (ticked k b)).board
+ticked (suc k) b = (clock (ticked k b)).left
 
 -- an answer that is yes
 abbrev pub is_yes : ClockAnswer → Bool
-is_yes Yes = true
-is_yes No = false
-is_yes (Refused why) = false
+is_yes (Ok true) = true
+is_yes (Ok false) = false
+is_yes (Err why) = false
 
 -- whether "clock k (from one) answers yes"
 abbrev pub says_yes : ℕ → Board → Bool

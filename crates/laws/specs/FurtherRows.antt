@@ -1,6 +1,6 @@
 -- Further rows beside the P lines, worked out by hand from document 01 (one row of clocks as M-101 has it) and held under one claim: what each window of board mode shows, at counts where the
 -- modulo bites, where a byte is stored, and which notices come; house mode's oddities; every refusal with its place in the order; the size and the mark.
-use Rattle.std.specs.Prelude.{ℕ, ◌+◌, ◌*◌, ◌/◌, ◌%◌, Bool, true, false, List, [], ◌∷◌, ◌++◌, map, replicate, take}
+use Rattle.std.specs.Prelude.{ℕ, ◌+◌, ◌*◌, ◌/◌, ◌%◌, Bool, true, false, List, [], ◌∷◌, ◌++◌, map, replicate, take, Some, None, Ok}
 use Rattle.common.specs.declared.Mode.{Mode}
 use Rattle.common.specs.declared.Mode.TheVariants.{House, Board as OnBoard}
 use Rattle.common.specs.declared.Mirroring.TheVariants.{Horizontal, Vertical, SingleScreenUpper, SingleScreenLower}
@@ -11,9 +11,8 @@ use Rattle.cartridge.specs.declared.Header.{Header}
 use Rattle.cartridge.specs.declared.MapperType.{MapperType}
 use Rattle.cartridge.specs.declared.MapperType.TheVariants.{Nrom, Mmc1, Uxrom, Cnrom, Mmc3}
 use Rattle.places.specs.declared.Place.TheVariants.{Prg, Chr, PrgRam, ChrRam, Nowhere}
-use Rattle.places.specs.declared.Landing.{Landing}
-use Rattle.places.specs.declared.Landing.TheVariants.{At}
-use Rattle.boards.specs.Start.{start_of, no_board, load}
+use Rattle.places.specs.Places.{Landing}
+use Rattle.boards.specs.Start.{start_of, no_board, load, load_answer}
 use Rattle.boards.specs.Numbers.{refused_by, header_number, load_number}
 use Rattle.boards.specs.Runs.{Lent, lent, answer}
 use Rattle.boards.specs.Read.{read_landing}
@@ -21,8 +20,7 @@ use Rattle.boards.specs.Write.{write_landing, accepted_write}
 use Rattle.boards.specs.declared.Board.{Board}
 use Rattle.boards.specs.declared.Event.{Event}
 use Rattle.boards.specs.declared.Event.TheVariants.{Read, Write, Clock}
-use Rattle.boards.specs.declared.WriteAnswer.{WriteAnswer}
-use Rattle.boards.specs.declared.WriteAnswer.TheVariants.{Quiet, Notice}
+use Rattle.boards.specs.Write.{WriteAnswer}
 use Rattle.laws.specs.PLines as paper
 use Rattle.laws.specs.PLines.{header, image, ram, load_of, with_rams, answer_number}
 use Rattle.laws.specs.PLines.Question.{when_loaded, when_played}
@@ -71,7 +69,7 @@ fill select v = poke 0x8000 select ∷ poke 0x8001 v ∷ []
 -- the board after accepted writes
 abbrev pub poked : Board → List Poke → Board
 poked b [] = b
-poked b (poke a v ∷ ps) = poked (accepted_write b v a).board ps
+poked b (poke a v ∷ ps) = poked (accepted_write b v a).left ps
 
 -- what a row asks: what a P line may ask, of a load with RAMs of these lengths, of a call, of a header, of a board after writes, or of what stands by itself
 pub data Question : Type 0 where
@@ -95,7 +93,7 @@ pub data Seen : Type 0 where
 -- the answers to writes, one after another
 abbrev pub replies : Board → List Poke → List Seen
 replies b [] = []
-replies b (poke a v ∷ ps) = answered (accepted_write b v a).answer ∷ replies (accepted_write b v a).board ps
+replies b (poke a v ∷ ps) = answered (accepted_write b v a).answer ∷ replies (accepted_write b v a).left ps
 
 -- a header with these counts and this byte 7
 abbrev pub headed : ℕ → ℕ → ℕ → Header
@@ -118,7 +116,7 @@ headed p c b7 =
 -- the answer to a question
 abbrev pub answer_to : Question → List Seen
 answer_to (as_plines q) = map number (paper.answer_to q)
-answer_to (loads_with mode s prgs chrs) = number (load_number (load s mode prgs chrs).answer) ∷ []
+answer_to (loads_with mode s prgs chrs) = number (load_number (load_answer (load s mode prgs chrs))) ∷ []
 answer_to (calls_on b l e) = number (answer_number (answer b l e)) ∷ []
 answer_to (reads_header s) = number (header_number (header_read s)) ∷ []
 answer_to (shows c ps addresses) = map (λ (a : ℕ). lands (read_landing (poked (start_of c) ps) a)) addresses
@@ -138,39 +136,39 @@ row q w = record { asked = q; wanted = w }
 
 -- the first byte of a 16 KB PRG bank
 abbrev pub prg16 : ℕ → Seen
-prg16 n = lands (At (Prg (n * 16384)))
+prg16 n = lands (Ok (Prg (n * 16384)))
 
 -- the first byte of an 8 KB PRG bank
 abbrev pub prg8 : ℕ → Seen
-prg8 n = lands (At (Prg (n * 8192)))
+prg8 n = lands (Ok (Prg (n * 8192)))
 
 -- the first byte of an 8 KB CHR bank
 abbrev pub chr8 : ℕ → Seen
-chr8 n = lands (At (Chr (n * 8192)))
+chr8 n = lands (Ok (Chr (n * 8192)))
 
 -- the first byte of a 4 KB CHR bank
 abbrev pub chr4 : ℕ → Seen
-chr4 n = lands (At (Chr (n * 4096)))
+chr4 n = lands (Ok (Chr (n * 4096)))
 
 -- the first byte of a 1 KB CHR bank
 abbrev pub chr1_k : ℕ → Seen
-chr1_k n = lands (At (Chr (n * 1024)))
+chr1_k n = lands (Ok (Chr (n * 1024)))
 
 -- a byte of CHR RAM
 abbrev pub chr_ram : ℕ → Seen
-chr_ram i = lands (At (ChrRam i))
+chr_ram i = lands (Ok (ChrRam i))
 
 -- a byte of PRG RAM
 abbrev pub prg_ram : ℕ → Seen
-prg_ram i = lands (At (PrgRam i))
+prg_ram i = lands (Ok (PrgRam i))
 
 -- "a read answers 0, a write does nothing"
 abbrev pub none : Seen
-none = lands (At Nowhere)
+none = lands (Ok Nowhere)
 
 -- four bits that are quiet, then what the fifth answers
 abbrev pub fifth : WriteAnswer → List Seen
-fifth w = answered Quiet ∷ answered Quiet ∷ answered Quiet ∷ answered Quiet ∷ answered w ∷ []
+fifth w = answered (Ok None) ∷ answered (Ok None) ∷ answered (Ok None) ∷ answered (Ok None) ∷ answered w ∷ []
 
 -- the first addresses of MMC1's and UxROM's PRG windows
 abbrev pub halves : List ℕ
@@ -244,7 +242,7 @@ rows =
     ∷ row (stores mmc1 [] (0x0000 ∷ 0x1FFF ∷ 0x2000 ∷ 0x6000 ∷ 0x7FFF ∷ 0x8000 ∷ [])) (none ∷ none ∷ none ∷ prg_ram 0 ∷ prg_ram 8191 ∷ none ∷ [])
     ∷ row (shows mmc1 [] (0x2000 ∷ 0x5FFF ∷ 0x6000 ∷ 0x7FFF ∷ [])) (none ∷ none ∷ prg_ram 0 ∷ prg_ram 8191 ∷ [])
     -- "Notices compare with the current mirroring, which starts as the header's"
-    ∷ row (says mmc1 (control 3 ++ control 2 ++ control 2 ++ control 0 ++ control 1 ++ control 3)) (fifth Quiet ++ fifth (Notice Vertical) ++ fifth Quiet ++ fifth (Notice SingleScreenLower) ++ fifth (Notice SingleScreenUpper) ++ fifth (Notice Horizontal))
+    ∷ row (says mmc1 (control 3 ++ control 2 ++ control 2 ++ control 0 ++ control 1 ++ control 3)) (fifth (Ok None) ++ fifth (Ok (Some Vertical)) ++ fifth (Ok None) ++ fifth (Ok (Some SingleScreenLower)) ++ fifth (Ok (Some SingleScreenUpper)) ++ fifth (Ok (Some Horizontal)))
     -- NROM: "8000-BFFF first PRG block; C000-FFFF second, or first again if only one"
     ∷ row (shows (cart Nrom 2 1) [] (0x0000 ∷ 0x2000 ∷ 0x7FFF ∷ halves)) (chr8 0 ∷ none ∷ none ∷ prg16 0 ∷ prg16 1 ∷ [])
     ∷ row (shows (cart Nrom 1 1) [] halves) (prg16 0 ∷ prg16 0 ∷ [])
@@ -279,7 +277,7 @@ rows =
     ∷ row (stores mmc3 [] (0x0000 ∷ 0x1FFF ∷ 0x2000 ∷ 0x6000 ∷ 0x7FFF ∷ 0xE000 ∷ [])) (none ∷ none ∷ none ∷ prg_ram 0 ∷ prg_ram 8191 ∷ none ∷ [])
     ∷ row (shows mmc3 [] (0x2000 ∷ 0x5FFF ∷ 0x6000 ∷ 0x7FFF ∷ [])) (none ∷ none ∷ prg_ram 0 ∷ prg_ram 8191 ∷ [])
     -- "A000-BFFF even: bit 0 set horizontal, else vertical", against the current mirroring
-    ∷ row (says mmc3 (poke 0xA000 1 ∷ poke 0xA000 0 ∷ poke 0xBFFE 2 ∷ poke 0xA001 1 ∷ poke 0xA000 3 ∷ [])) (answered Quiet ∷ answered (Notice Vertical) ∷ answered Quiet ∷ answered Quiet ∷ answered (Notice Horizontal) ∷ [])
+    ∷ row (says mmc3 (poke 0xA000 1 ∷ poke 0xA000 0 ∷ poke 0xBFFE 2 ∷ poke 0xA001 1 ∷ poke 0xA000 3 ∷ [])) (answered (Ok None) ∷ answered (Ok (Some Vertical)) ∷ answered (Ok None) ∷ answered (Ok None) ∷ answered (Ok (Some Horizontal)) ∷ [])
     -- "`total_size_excluding_header` is the sum of both in bytes"
     ∷ row (size_of 1 1) (number 24576 ∷ [])
     ∷ row (size_of 3 0) (number 49152 ∷ [])
@@ -298,11 +296,11 @@ rows =
     ∷ row (calls_on no_board (lent paper.nrom [] ram) (Read 0x8000)) (number (refused_by 9) ∷ [])
     ∷ row (calls_on no_board (lent paper.nrom ram []) (Write 0x8000 0)) (number (refused_by 9) ∷ [])
     -- "or (read, write) the image length is not the one loaded"
-    ∷ row (calls_on (load_of House paper.nrom).board (with_rams (image 16401 1 0 0x00)) (Read 0x8000)) (number (refused_by 10) ∷ [])
+    ∷ row (calls_on (load_of House paper.nrom).left (with_rams (image 16401 1 0 0x00)) (Read 0x8000)) (number (refused_by 10) ∷ [])
     -- 12 and 13: house writes; in board mode CHR ROM ignores them
-    ∷ row (calls_on (load_of House chr_rom).board (with_rams chr_rom) (Write 0x0000 1)) (number (refused_by 12) ∷ [])
-    ∷ row (calls_on (load_of OnBoard chr_rom).board (with_rams chr_rom) (Write 0x0000 1)) (number 0 ∷ [])
-    ∷ row (calls_on (load_of House paper.cnrom).board (with_rams paper.cnrom) (Write 0x2000 0)) (number (refused_by 13) ∷ [])
+    ∷ row (calls_on (load_of House chr_rom).left (with_rams chr_rom) (Write 0x0000 1)) (number (refused_by 12) ∷ [])
+    ∷ row (calls_on (load_of OnBoard chr_rom).left (with_rams chr_rom) (Write 0x0000 1)) (number 0 ∷ [])
+    ∷ row (calls_on (load_of House paper.cnrom).left (with_rams paper.cnrom) (Write 0x2000 0)) (number (refused_by 13) ∷ [])
     -- 14: "even address in E000-FFFF, IRQ enabled, counter 0 or 1"; in board mode it is taken
     ∷ row (as_plines (when_played House paper.mmc3 (Write 0xE001 0 ∷ Write 0xE000 0 ∷ []))) (number 0 ∷ number (refused_by 14) ∷ [])
     ∷ row (as_plines (when_played OnBoard paper.mmc3 (Write 0xE001 0 ∷ Write 0xE000 0 ∷ []))) (number 0 ∷ number 0 ∷ [])

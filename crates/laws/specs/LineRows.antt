@@ -30,7 +30,7 @@ up b = with_registers b (with_mmc3 b.registers (with_line b.registers.mmc3 true)
 
 -- a call of the board that an image's load leaves, with the line put up
 abbrev pub while_up : Mode → List ℕ → Event → Question
-while_up mode s e = calls_on (up (load_of mode s).board) (with_rams s) e
+while_up mode s e = calls_on (up (load_of mode s).left) (with_rams s) e
 
 -- the table
 abbrev pub rows : List Row

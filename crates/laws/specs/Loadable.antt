@@ -1,12 +1,11 @@
 -- State ranges: "Mapper, counts, length and mirroring as a load could leave them": the image that leaves a cartridge, and how long an image has to be.
-use Rattle.std.specs.Prelude.{ℕ, ◌+◌, ◌-◌, ◌*◌, ◌/◌, ◌%◌, ◌≤◌, ◌≡◌, Bool, false, cond, List, [], ◌∷◌, ◌++◌, replicate}
+use Rattle.std.specs.Prelude.{ℕ, ◌+◌, ◌-◌, ◌*◌, ◌/◌, ◌%◌, ◌≤◌, ◌≡◌, Bool, false, cond, List, [], ◌∷◌, ◌++◌, replicate, Ok}
 use Rattle.common.specs.Answers.{among}
 use Rattle.memory.specs.Memory.{AreBytes}
 use Rattle.cartridge.specs.Nes2.{is_nes2_in}
 use Rattle.cartridge.specs.Load.{needed, has_chr_ram, load}
 use Rattle.cartridge.specs.Mappers.{mapper_number}
 use Rattle.cartridge.specs.declared.Cartridge.{Cartridge}
-use Rattle.cartridge.specs.declared.Loaded.TheVariants.{Accepted}
 
 -- byte 6: the mapper over "bit 0: 1 vertical, 0 horizontal"
 abbrev pub byte6 : Cartridge → ℕ
@@ -37,7 +36,7 @@ image_for c = header_for c ++ replicate (c.length - 16) 0
 -- an image of bytes whose load in the cartridge's mode, with both RAMs lent whole, leaves the cartridge
 pub record Leaves (s : List ℕ) (c : Cartridge) : Type 0 where
   pub are_bytes : AreBytes s
-  pub accepted : load s c.mode 8192 8192 ≡ Accepted c
+  pub accepted : load s c.mode 8192 8192 ≡ Ok c
 
 -- how long an image has to be for its counts: "Greatest needed length: 6,266,896", and with M-100's counts 50,331,664; and the image is as long
 pub record Needs (c : Cartridge) : Type 0 where

@@ -1,9 +1,8 @@
 -- Which writes a board accepts, and the moves that the calls of a run make on an MMC1 board.
-use Rattle.std.specs.Prelude.{ℕ, Bool, true, false, cond, ◌&&◌, List, [], ◌∷◌}
+use Rattle.std.specs.Prelude.{ℕ, Bool, true, false, cond, ◌&&◌, List, [], ◌∷◌, Ok, Err}
 use Rattle.cartridge.specs.Mappers.{is_mapper}
 use Rattle.cartridge.specs.declared.MapperType.TheVariants.{Mmc1}
-use Rattle.places.specs.declared.Landing.{Landing}
-use Rattle.places.specs.declared.Landing.TheVariants.{At, Refused}
+use Rattle.places.specs.Places.{Landing}
 use Rattle.mmc1.specs.Write.{move_of}
 use Rattle.mmc1.specs.declared.Move.{Move}
 use Rattle.mmc1.specs.declared.Move.TheVariants.{Nothing}
@@ -15,8 +14,8 @@ use Rattle.boards.specs.declared.Event.TheVariants.{Read, Write, Clock}
 
 -- whether a write that lands there is accepted
 unfoldable pub is_accepted : Landing → Bool
-is_accepted (Refused why) = false
-is_accepted (At p) = true
+is_accepted (Err why) = false
+is_accepted (Ok p) = true
 
 -- whether the board accepts a write; it answers a refusal exactly when not
 abbrev pub accepts : Board → Lent → ℕ → Bool

@@ -1,6 +1,6 @@
 -- "Byte 7 AND 0C equal to 08 marks NES 2.0; it is recorded and changes nothing", but by what M-100 reads: two images that differ in the low nibble of byte 7
 -- alone, both read as NES 2.0 or neither, and the boards that they load, which differ in the mark alone. A call looks at no byte of the header.
-use Rattle.std.specs.Prelude.{ℕ, ◌≡◌, Bool, List, map, set}
+use Rattle.std.specs.Prelude.{ℕ, ◌≡◌, Bool, List, map, set, Ok}
 use Rattle.common.specs.declared.Mode.{Mode}
 use Rattle.cartridge.specs.Header.{header_of, is_nes2}
 use Rattle.cartridge.specs.Nes2.{is_nes2_in}
@@ -8,7 +8,6 @@ use Rattle.cartridge.specs.declared.Cartridge.{Cartridge}
 use Rattle.boards.specs.Runs.{Lent, lent, next, answer, left, Call, call, after, answers}
 use Rattle.boards.specs.declared.Board.{Board}
 use Rattle.boards.specs.declared.Event.{Event}
-use Rattle.boards.specs.declared.LoadAnswer.TheVariants.{Accepted}
 use Rattle.laws.specs.Calls.{load_with, ram_left}
 
 -- a cartridge with this mark
@@ -39,7 +38,7 @@ call_with i v (call l e) = call (lent_with i v l) e
 -- a load of the image with another byte 7: the same answer, the same RAMs, and where it is accepted the same board, but for the mark
 pub record SameLoad (mode : Mode) (s prg chr : List ℕ) (v : ℕ) : Type 0 where
   pub the_answer : (load_with mode (with_byte 7 v s) prg chr).answer ≡ (load_with mode s prg chr).answer
-  pub the_board : (load_with mode s prg chr).answer ≡ Accepted → (load_with mode (with_byte 7 v s) prg chr).board ≡ marked (is_nes2 (header_of (with_byte 7 v s))) (load_with mode s prg chr).board
+  pub the_board : (load_with mode s prg chr).answer ≡ Ok tt → (load_with mode (with_byte 7 v s) prg chr).left ≡ marked (is_nes2 (header_of (with_byte 7 v s))) (load_with mode s prg chr).left
   pub the_prg_ram : ram_left mode (with_byte 7 v s) prg chr prg ≡ ram_left mode s prg chr prg
   pub the_chr_ram : ram_left mode (with_byte 7 v s) prg chr chr ≡ ram_left mode s prg chr chr
 

@@ -7,7 +7,7 @@ use Rattle.cartridge.specs.Load.{needed}
 use Rattle.cartridge.specs.declared.Cartridge.{Cartridge}
 use Rattle.cartridge.specs.declared.MapperType.{MapperType}
 use Rattle.cartridge.specs.declared.MapperType.TheVariants.{Nrom, Mmc1, Uxrom, Cnrom, Mmc3}
-use Rattle.boards.specs.Start.{start_of, load}
+use Rattle.boards.specs.Start.{start_of, load, load_answer}
 use Rattle.boards.specs.Numbers.{refused_by, load_number}
 use Rattle.boards.specs.Runs.{lent}
 use Rattle.boards.specs.declared.Event.TheVariants.{Read, Clock}
@@ -54,7 +54,7 @@ loads mode b = as_plines (when_loaded mode (image_of 16400 b))
 abbrev pub reads_ram : Mode → Bytes → Question
 reads_ram mode b =
     let s = image_of 16400 b in
-    calls_on (load_of mode s).board (lent s (replicate 8192 5) ram) (Read 0x6000)
+    calls_on (load_of mode s).left (lent s (replicate 8192 5) ram) (Read 0x6000)
 
 -- a row for each of some bytes: a load in board mode of the header that has the byte
 abbrev pub each : (ℕ → Bytes) → List ℕ → List Seen → List Row
@@ -145,7 +145,7 @@ rows =
     ∷ row (reads_ram OnBoard (unmarked 1 0 0x10 0x00 0x00 0x00 0x07)) (number 5 ∷ [])
     -- both RAMs are lent all the same
     ∷ row (loads_with OnBoard ramless_mmc1 0 8192) (refusal 9)
-    ∷ row (calls_on (load_of OnBoard ramless_mmc1).board (lent ramless_mmc1 [] ram) (Read 0x6000)) (refusal 9)
+    ∷ row (calls_on (load_of OnBoard ramless_mmc1).left (lent ramless_mmc1 [] ram) (Read 0x6000)) (refusal 9)
     -- "and ignores writes": where reads and writes land
     ∷ row (shows (ramless Mmc1 1 1) [] (0x5FFF ∷ 0x6000 ∷ 0x7FFF ∷ 0x8000 ∷ [])) (none ∷ none ∷ none ∷ prg16 0 ∷ [])
     ∷ row (stores (ramless Mmc1 1 1) [] (0x5FFF ∷ 0x6000 ∷ 0x7FFF ∷ 0x8000 ∷ [])) (none ∷ none ∷ none ∷ none ∷ [])
@@ -199,4 +199,4 @@ chr257 = marked 1 1 0x20 0x00 0x10 0x07 0x00
 
 -- what a load of an image of so many bytes answers in board mode, both RAMs lent whole
 abbrev pub loaded_at : ℕ → Bytes → ℕ
-loaded_at size b = load_number (load (image_of size b) OnBoard 8192 8192).answer
+loaded_at size b = load_number (load_answer (load (image_of size b) OnBoard 8192 8192))

@@ -8,7 +8,9 @@ use Rattle.mmc1.specs.declared.Register.{Register}
 use Rattle.mmc1.specs.declared.Register.TheVariants.{Control, Chr0, Chr1, Prg}
 use Rattle.boards.specs.Numbers.{refused_by, read_number, write_number, clock_number, load_number}
 use Rattle.boards.specs.Runs.{Lent, lent, Call, call, after, answers}
-use Rattle.boards.specs.declared.Loaded.{Loaded}
+use Rattle.boards.specs.declared.Board as state
+use Rattle.boards.specs.Start.{LoadAnswer}
+use Rattle.common.specs.declared.Outcome.{Outcome}
 use Rattle.boards.specs.declared.Event.{Event}
 use Rattle.boards.specs.declared.Event.TheVariants.{Read, Write, Clock}
 use Rattle.boards.specs.declared.Answer.{Answer}
@@ -29,7 +31,7 @@ abbrev pub ram : List ℕ
 ram = replicate 8192 0
 
 -- the load of an image, with both RAMs lent
-abbrev pub load_of : Mode → List ℕ → Loaded
+abbrev pub load_of : Mode → List ℕ → Outcome state.Board LoadAnswer
 load_of mode s = load_with mode s ram ram
 
 -- the image and both RAMs, lent to a call
@@ -72,12 +74,12 @@ listed (Fill w v ∷ ks) = register_number w ∷ v ∷ listed ks
 -- the answer to a question
 abbrev pub answer_to : Question → List ℕ
 answer_to (when_loaded mode s) = load_number (load_of mode s).answer ∷ []
-answer_to (when_played mode s es) = map answer_number (answers (load_of mode s).board (calls_of s es))
-answer_to (loads_of mode s es) = listed (moves (load_of mode s).board (calls_of s es))
+answer_to (when_played mode s es) = map answer_number (answers (load_of mode s).left (calls_of s es))
+answer_to (loads_of mode s es) = listed (moves (load_of mode s).left (calls_of s es))
 answer_to (modes_after mode s es) =
-    let r = (after (load_of mode s).board (calls_of s es)).registers.mmc1.regs in
+    let r = (after (load_of mode s).left (calls_of s es)).registers.mmc1.regs in
     r.prgmode ∷ r.chrmode ∷ []
-answer_to (prg_after mode s es) = (after (load_of mode s).board (calls_of s es)).registers.mmc1.regs.prg ∷ []
+answer_to (prg_after mode s es) = (after (load_of mode s).left (calls_of s es)).registers.mmc1.regs.prg ∷ []
 
 -- a row: what is asked, and what is wanted
 pub record Row : Type 0 where

@@ -1,6 +1,6 @@
 -- M-111: which call moves the marks of RAM, and what MMC3 showed and did before that request, whose words are quoted. All that it does not touch, the clock, the other boards,
 -- 9 and 10, is as today's definitions have it.
-use Rattle.std.specs.Prelude.{ℕ, ◌/◌, ◌≡◌, Bool, true, false, cond, not, ◌&&◌, List, [], ◌∷◌, ltb, leb, length}
+use Rattle.std.specs.Prelude.{ℕ, ◌/◌, ◌≡◌, Bool, true, false, cond, not, ◌&&◌, List, [], ◌∷◌, ltb, leb, length, None, Ok, Err}
 use Rattle.common.specs.declared.Mode.{Mode}
 use Rattle.common.specs.declared.Mode.TheVariants.{House, Board as OnBoard}
 use Rattle.cartridge.specs.Load.{rams_fit}
@@ -11,8 +11,7 @@ use Rattle.cartridge.specs.declared.MapperType.TheVariants.{Mmc3}
 use Rattle.places.specs.Places.{byte_at, answer_at, stored_prg, stored_chr}
 use Rattle.places.specs.Windows.{Window, lands_in, prg_ram_of, in_windows}
 use Rattle.places.specs.Windows.Window.{Prg8K, Chr1K}
-use Rattle.places.specs.declared.Landing.{Landing}
-use Rattle.places.specs.declared.Landing.TheVariants.{At, Refused}
+use Rattle.places.specs.Places.{Landing}
 use Rattle.mmc3.specs.Read.{chr_bank, prg_bank, ppu_write_in, rom_write_in}
 use Rattle.mmc3.specs.Write.{is_even}
 use Rattle.mmc3.specs.declared.RamMarks.{RamMarks}
@@ -25,8 +24,7 @@ use Rattle.boards.specs.declared.Board.{Board}
 use Rattle.boards.specs.declared.Registers.{Registers}
 use Rattle.boards.specs.declared.Event.{Event}
 use Rattle.boards.specs.declared.Event.TheVariants.{Read, Write, Clock}
-use Rattle.boards.specs.declared.WriteAnswer.{WriteAnswer}
-use Rattle.boards.specs.declared.WriteAnswer.TheVariants.{Quiet, Refused as NotWritten}
+use Rattle.boards.specs.Write.{WriteAnswer}
 use Rattle.boards.specs.declared.Answer.{Answer}
 use Rattle.boards.specs.declared.Answer.TheVariants.{Read as toRead, Write as toWrite, Clock as toClock}
 
@@ -83,13 +81,13 @@ guarded_before b l p = guarded (rams_fit (length l.prg) (length l.chr)) (is_load
 -- the board after an event; before M-111 "an odd write to A000-BFFF" did nothing
 unfoldable pub next_before : Board → Lent → Event → Board
 next_before b l (Read a) = b
-next_before b l (Write a v) = cond (is_for_marks b.cart a) b (written_as b (guarded_before b l (write_before b a)) v a).board
-next_before b l Clock = (clock b).board
+next_before b l (Write a v) = cond (is_for_marks b.cart a) b (written_as b (guarded_before b l (write_before b a)) v a).left
+next_before b l Clock = (clock b).left
 
 -- what a write answered that does nothing: quiet, where it was accepted
 abbrev pub quiet_at : Landing → WriteAnswer
-quiet_at (At p) = Quiet
-quiet_at (Refused why) = NotWritten why
+quiet_at (Ok p) = Ok None
+quiet_at (Err why) = Err why
 
 -- what the event answered
 unfoldable pub answer_before : Board → Lent → Event → Answer

@@ -1,6 +1,6 @@
 -- M-111's own table, worked out by hand: what each setting of the marks shows and takes at 6000-7FFF, which writes set them, where another setting than the start's
 -- may stand; and runs in which each call is lent the RAM that the one before left.
-use Rattle.std.specs.Prelude.{ℕ, Bool, true, false, List, [], ◌∷◌, ◌++◌, map}
+use Rattle.std.specs.Prelude.{ℕ, Bool, true, false, List, [], ◌∷◌, ◌++◌, map, None, Ok}
 use Rattle.common.specs.declared.Mode.{Mode}
 use Rattle.common.specs.declared.Mode.TheVariants.{House, Board as OnBoard}
 use Rattle.cartridge.specs.declared.Cartridge.{Cartridge}
@@ -13,7 +13,6 @@ use Rattle.boards.specs.Runs.{moment, played}
 use Rattle.boards.specs.declared.Board.{Board}
 use Rattle.boards.specs.declared.Event.{Event}
 use Rattle.boards.specs.declared.Event.TheVariants.{Read, Write, Clock}
-use Rattle.boards.specs.declared.WriteAnswer.TheVariants.{Quiet}
 use Rattle.laws.specs.PLines as paper
 use Rattle.laws.specs.PLines.{load_of, with_rams, answer_number}
 use Rattle.laws.specs.FurtherRows.{Poke, poke, Question, Seen, Row, row, cart, house_cart, prg8, chr_ram, prg_ram, none}
@@ -55,7 +54,7 @@ with_marks enabled denied b = with_registers b (with_mmc3 b.registers (with_ram 
 
 -- a clock of the board that an image's load leaves, with the marks put so
 abbrev pub while_marked : Mode → List ℕ → Bool → Bool → Question
-while_marked mode s enabled denied = calls_on (with_marks enabled denied (load_of mode s).board) (with_rams s) Clock
+while_marked mode s enabled denied = calls_on (with_marks enabled denied (load_of mode s).left) (with_rams s) Clock
 
 -- a setting that no board but MMC3's in board mode may have: a row for each mode and each other board, and for MMC3 in house mode
 abbrev pub nowhere_else : Bool → Bool → List Row
@@ -96,7 +95,7 @@ rows =
     ∷ row (shows mmc3 (poke 0xA000 0x00 ∷ poke 0xBFFE 0x00 ∷ poke 0x9FFF 0x00 ∷ poke 0xC001 0x00 ∷ poke 0xE001 0x00 ∷ poke 0xFFFF 0x00 ∷ []) edges) open_read
     ∷ row (stores mmc3 (poke 0xA000 0x40 ∷ poke 0xBFFE 0x40 ∷ poke 0x9FFF 0x40 ∷ poke 0xC001 0x40 ∷ poke 0xE001 0x40 ∷ poke 0xFFFF 0x40 ∷ []) edges) open_written
     -- it answers nothing, and a write that is ignored is quiet
-    ∷ row (says mmc3 (poke 0xA001 0x40 ∷ poke 0x6000 5 ∷ poke 0xBFFF 0xC0 ∷ poke 0x7FFF 5 ∷ [])) (answered Quiet ∷ answered Quiet ∷ answered Quiet ∷ answered Quiet ∷ [])
+    ∷ row (says mmc3 (poke 0xA001 0x40 ∷ poke 0x6000 5 ∷ poke 0xBFFF 0xC0 ∷ poke 0x7FFF 5 ∷ [])) (answered (Ok None) ∷ answered (Ok None) ∷ answered (Ok None) ∷ answered (Ok None) ∷ [])
     -- CHR RAM is not concerned
     ∷ row (shows mmc3 (set 0x40) (0x0000 ∷ 0x1FFF ∷ [])) (chr_ram 0 ∷ chr_ram 1023 ∷ [])
     ∷ row (stores mmc3 (set 0x40) (0x0000 ∷ 0x1FFF ∷ [])) (chr_ram 0 ∷ chr_ram 1023 ∷ [])
@@ -119,7 +118,7 @@ rows =
 
 -- what each event of a run answers, from a load on, where each is lent what the one before left
 abbrev pub played_from : Mode → List ℕ → List Event → List ℕ
-played_from mode s es = map answer_number (played (moment (load_of mode s).board (with_rams s)) es)
+played_from mode s es = map answer_number (played (moment (load_of mode s).left (with_rams s)) es)
 
 -- a byte before a lock, what is read and written while RAM is disabled, while it is denied, and what is there afterwards
 abbrev pub lock_and_unlock : List Event

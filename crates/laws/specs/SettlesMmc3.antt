@@ -9,7 +9,7 @@ use Rattle.boards.specs.declared.Board.{Board}
 use Rattle.boards.specs.declared.Event.TheVariants.{Clock}
 use Rattle.boards.specs.declared.Answer.{Answer}
 use Rattle.boards.specs.declared.Answer.TheVariants.{Read as toRead, Write as toWrite, Clock as toClock}
-use Rattle.boards.specs.declared.ClockAnswer.{ClockAnswer}
+use Rattle.boards.specs.Clock.{ClockAnswer}
 use Rattle.laws.specs.Calls.{LentWrite, wrote, wiped_lent}
 use Rattle.laws.specs.Clocks.{line_up}
 use Rattle.laws.specs.Loads.{accepts}
@@ -62,6 +62,6 @@ pub record Settles (b d : Board) (cs ds : List Call) : Type 0 where
   -- "agree on every IRQ answer from that clock on"
   pub irq_answers_agree : (l k : Lent) → irq_answers b (call l Clock ∷ cs) ≡ irq_answers d (call k Clock ∷ ds)
   -- so too on the level, where it is asked without a clock
-  pub levels_agree : line_up (after (clock b).board cs) ≡ line_up (after (clock d).board ds)
+  pub levels_agree : line_up (after (clock b).left cs) ≡ line_up (after (clock d).left ds)
   -- a later write, so too the acknowledging one (14), is refused on both or on neither
-  pub both_refuse_or_neither : (l k : Lent) → wiped_lent l ≡ wiped_lent k → (a : ℕ) → accepts (after (clock b).board cs) l a ≡ accepts (after (clock d).board ds) k a
+  pub both_refuse_or_neither : (l k : Lent) → wiped_lent l ≡ wiped_lent k → (a : ℕ) → accepts (after (clock b).left cs) l a ≡ accepts (after (clock d).left ds) k a

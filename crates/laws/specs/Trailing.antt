@@ -29,7 +29,7 @@ with_image t l = lent t l.prg l.chr
 -- a load of either image: the same answer, the same board and the same RAMs
 pub record LoadedAlike (mode : Mode) (s t prg chr : List ℕ) : Type 0 where
   pub the_answer : (load_with mode t prg chr).answer ≡ (load_with mode s prg chr).answer
-  pub the_board : (load_with mode t prg chr).board ≡ (load_with mode s prg chr).board
+  pub the_board : (load_with mode t prg chr).left ≡ (load_with mode s prg chr).left
   pub the_prg_ram : ram_left mode t prg chr prg ≡ ram_left mode s prg chr prg
   pub the_chr_ram : ram_left mode t prg chr chr ≡ ram_left mode s prg chr chr
 

@@ -1,15 +1,13 @@
 -- What it means for a program to meet demand 2's definitions, whatever state it keeps, and the four useless boards.
-use Rattle.std.specs.Prelude.{ℕ, ◌≡◌, Bool, true, false, cond, List, [], ◌∷◌}
+use Rattle.std.specs.Prelude.{ℕ, ◌≡◌, Bool, true, false, cond, List, [], ◌∷◌, Ok, Err}
 use Rattle.common.specs.declared.Mode.{Mode}
-use Rattle.places.specs.declared.ReadAnswer.TheVariants.{Byte}
 use Rattle.boards.specs.Runs.{Lent, next, answer, left, Call, call, answers}
 use Rattle.boards.specs.declared.Board.{Board}
 use Rattle.boards.specs.declared.Event.{Event}
 use Rattle.boards.specs.declared.Event.TheVariants.{Read, Write}
 use Rattle.boards.specs.declared.Answer.{Answer}
 use Rattle.boards.specs.declared.Answer.TheVariants.{Read as toRead, Write as toWrite, Clock as toClock}
-use Rattle.boards.specs.declared.LoadAnswer.{LoadAnswer}
-use Rattle.boards.specs.declared.LoadAnswer.TheVariants.{Accepted, Refused as NotLoaded}
+use Rattle.boards.specs.Start.{LoadAnswer}
 use Rattle.laws.specs.Calls.{load_with, ram_left, is_refusal}
 
 -- what a program's load gives: its answer, the state that it goes on with, and both RAMs as it leaves them
@@ -56,15 +54,15 @@ pub record Meets (p : Program) : Type 0 where
   pub loads : (mode : Mode) (s prg chr : List ℕ) → (p.load mode s prg chr).answer ≡ (load_with mode s prg chr).answer
   pub prg_ram : (mode : Mode) (s prg chr : List ℕ) → (p.load mode s prg chr).prg ≡ ram_left mode s prg chr prg
   pub chr_ram : (mode : Mode) (s prg chr : List ℕ) → (p.load mode s prg chr).chr ≡ ram_left mode s prg chr chr
-  pub calls : (mode : Mode) (s prg chr : List ℕ) → (load_with mode s prg chr).answer ≡ Accepted → (cs : List Call)
-      → replies p (p.load mode s prg chr).state cs ≡ answers (load_with mode s prg chr).board cs
-  pub buffers : (mode : Mode) (s prg chr : List ℕ) → (load_with mode s prg chr).answer ≡ Accepted → (cs : List Call)
-      → leavings p (p.load mode s prg chr).state cs ≡ lefts (load_with mode s prg chr).board cs
+  pub calls : (mode : Mode) (s prg chr : List ℕ) → (load_with mode s prg chr).answer ≡ Ok tt → (cs : List Call)
+      → replies p (p.load mode s prg chr).state cs ≡ answers (load_with mode s prg chr).left cs
+  pub buffers : (mode : Mode) (s prg chr : List ℕ) → (load_with mode s prg chr).answer ≡ Ok tt → (cs : List Call)
+      → leavings p (p.load mode s prg chr).state cs ≡ lefts (load_with mode s prg chr).left cs
 
 -- whether a load's answer is a refusal
 abbrev pub is_refused_load : LoadAnswer → Bool
-is_refused_load Accepted = false
-is_refused_load (NotLoaded why) = true
+is_refused_load (Ok tt) = false
+is_refused_load (Err why) = true
 
 -- the three kinds of call
 pub data Kind : Type 0 where
@@ -105,7 +103,7 @@ pub record Reached (p : Program) (x : p.State) : Type 0 where
   pub image : List ℕ
   pub prg : List ℕ
   pub chr : List ℕ
-  pub accepted : (p.load mode image prg chr).answer ≡ Accepted
+  pub accepted : (p.load mode image prg chr).answer ≡ Ok tt
   pub calls : List Call
   pub here : x ≡ went p (p.load mode image prg chr).state calls
 
@@ -119,7 +117,7 @@ RefusesCalls k p = (x : p.State) → Reached p x → (l : Lent) (e : Event) → 
 
 -- "one reading a constant byte": whatever read it serves, it answers that byte
 abbrev pub ReadsOnly : ℕ → Program → Type 0
-ReadsOnly v p = (x : p.State) → Reached p x → (l : Lent) (a : ℕ) → is_refusal (p.serve x l (Read a)).answer ≡ false → (p.serve x l (Read a)).answer ≡ toRead (Byte v)
+ReadsOnly v p = (x : p.State) → Reached p x → (l : Lent) (a : ℕ) → is_refusal (p.serve x l (Read a)).answer ≡ false → (p.serve x l (Read a)).answer ≡ toRead (Ok v)
 
 -- "one whose writes do nothing": later calls are answered as if the write had not been
 abbrev pub WritesMoveNothing : Program → Type 0
@@ -131,7 +129,7 @@ WritesStoreNothing p = (x : p.State) → Reached p x → (l : Lent) (a v : ℕ) 
 
 -- "one that serves the first call and then repeats itself": whatever is asked after a load, it answers all calls of a kind as the first of them
 abbrev pub Repeats : Kind → Program → Type 0
-Repeats k p = (mode : Mode) (s prg chr : List ℕ) → (p.load mode s prg chr).answer ≡ Accepted → (cs : List Call)
+Repeats k p = (mode : Mode) (s prg chr : List ℕ) → (p.load mode s prg chr).answer ≡ Ok tt → (cs : List Call)
     → AllAsFirst (answers_to k (replies p (p.load mode s prg chr).state cs))
 
 -- the definitions as a program, with the board as its state
@@ -142,7 +140,7 @@ the_definitions =
       load = λ mode s prg chr.
           record {
             answer = (load_with mode s prg chr).answer;
-            state = (load_with mode s prg chr).board;
+            state = (load_with mode s prg chr).left;
             prg = ram_left mode s prg chr prg;
             chr = ram_left mode s prg chr chr;
           };

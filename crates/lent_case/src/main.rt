@@ -5,7 +5,7 @@
 ghost use Rattle.std.specs.Prelude.{◌≡◌};
 ghost use Rattle.mmc3.specs.Clock.{clock_in};
 
-use common::Mode;
+use common::{Mode, Outcome};
 use mmc3::{Clocked, Irq};
 use std::io;
 
@@ -15,7 +15,7 @@ fn lend(irq: Irq, mode: Mode) -> Clocked
 {
     let mut unit = irq;
     let answer = lent_irq::clock(&mut unit, mode);
-    Clocked { irq: unit, answer }
+    Outcome { left: unit, answer }
 }
 
 // Latch, reload and enable written, and nothing after.
@@ -28,31 +28,21 @@ fn armed(latch: u8) -> Irq {
     }
 }
 
-fn print_answer(rt: &impl Print, answer: bool) -> io::Result<()> {
-    if answer {
-        print!(rt; " yes")
-    } else {
-        print!(rt; " no")
-    }
-}
-
-fn play(rt: &impl Print, mode: Mode, latch: u8, clocks: usize) -> io::Result<()> {
+fn play(rt: &impl Print, name: &str, mode: Mode, latch: u8, clocks: usize) -> io::Result<()> {
+    print!(rt; "{name}:")?;
     let mut unit = armed(latch);
     for _ in 0..clocks {
         let clocked = lend(unit, mode);
-        print_answer(rt, clocked.answer)?;
-        unit = clocked.irq;
+        let word = if clocked.answer { "yes" } else { "no" };
+        print!(rt; " {word}")?;
+        unit = clocked.left;
     }
     println!(rt; "")
 }
 
 fn main(rt: HostRuntime) -> io::Result<()> {
-    print!(rt; "P9 house:")?;
-    play(&rt, Mode::House, 0, 3)?;
-    print!(rt; "P9 board raises:")?;
-    play(&rt, Mode::Board, 0, 3)?;
-    print!(rt; "P10 house:")?;
-    play(&rt, Mode::House, 2, 7)?;
-    print!(rt; "P10 board raises:")?;
-    play(&rt, Mode::Board, 2, 7)
+    play(&rt, "P9 house", Mode::House, 0, 3)?;
+    play(&rt, "P9 board raises", Mode::Board, 0, 3)?;
+    play(&rt, "P10 house", Mode::House, 2, 7)?;
+    play(&rt, "P10 board raises", Mode::Board, 2, 7)
 }

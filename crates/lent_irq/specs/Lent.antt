@@ -7,4 +7,4 @@ use Rattle.mmc3.specs.Clock.{clock_in}
 -- "MMC3's IRQ unit is also lent by its owner, and a clock updates it there"
 pub record ClockOwes (mode : Mode) (before : Irq) (answer : Bool) (after : Irq) : Type 0 where
   pub reply : answer ≡ (clock_in mode before).answer
-  pub unit : after ≡ (clock_in mode before).irq
+  pub unit : after ≡ (clock_in mode before).left

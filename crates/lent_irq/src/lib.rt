@@ -9,7 +9,7 @@ use mmc3::Irq;
 pub fn clock(irq: &mut Irq, mode: Mode) -> bool
     ensures { ClockOwes mode irq.old result irq.new }
 {
-    let clocked = Irq::clock(*irq, mode);
-    *irq = clocked.irq;
+    let clocked = irq.clock(mode);
+    *irq = clocked.left;
     clocked.answer
 }

@@ -7,7 +7,7 @@ use native.Mathlib.Omega.{arith}
 use borrow.Author.Tests.{ltb-true}
 use lib.Dec.{ltb}
 use lib.ListN.{replicate}
-use Rattle.rules.proofs.Bools.{and_left, and_right}
+use Rattle.std.proofs.lemmas.Bool.{and_parts}
 use Rattle.memory.specs.Memory.{AreBytes}
 
 unfoldable pub Bytes : List ℕ → Type 0
@@ -32,7 +32,7 @@ all_bytes (v ∷ s) = ltb v 0x100 && all_bytes s
 tested : (s : List ℕ) → all_bytes s ≡ true → Bytes s
 unfolding Bytes all_bytes
 tested [] h = tt
-tested (v ∷ s) h = (ltb-true v 0x100 (and_left (ltb v 0x100) (all_bytes s) h), tested s (and_right (ltb v 0x100) (all_bytes s) h))
+tested (v ∷ s) h = (ltb-true v 0x100 (and_parts (ltb v 0x100) (all_bytes s) h).0, tested s (and_parts (ltb v 0x100) (all_bytes s) h).1)
 
 pub are_bytes : (s : List ℕ) → all_bytes s ≡ true → AreBytes s
 are_bytes s h = at_each_place s (tested s h)

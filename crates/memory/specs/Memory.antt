@@ -18,5 +18,5 @@ abbrev pub part : List ℕ → ℕ → ℕ → List ℕ
 part s a size = take size (drop a s)
 
 -- a copy of src, where it has just the length of dst; else what dst held
-unfoldable pub copied : List ℕ → List ℕ → List ℕ
+unfoldable pub copied : {A : Type 0} → List A → List A → List A
 copied dst src = cond (eqb (length dst) (length src)) src dst

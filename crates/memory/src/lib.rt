@@ -9,14 +9,14 @@ ghost use Rattle.memory.specs.Memory.{byte, tail, part, copied};
 pub fn byte_at(s: &[u8], i: usize) -> u8
     ensures { result ≡ byte s.now i }
 {
-    if i < s.len() { s[i] } else { 0 }
+    s.get(i).copied().unwrap_or(0)
 }
 
 // The data from a place on, nothing past the end.
 pub fn tail_of(s: &[u8], a: usize) -> &[u8]
     ensures { result.now ≡ tail s.now a }
 {
-    if a <= s.len() { &s[a..] } else { &s[..0] }
+    s.get(a..).unwrap_or(&[])
 }
 
 // The bytes from a place on, as many as asked for or as there are.
@@ -24,11 +24,7 @@ pub fn part_of(s: &[u8], a: usize, size: usize) -> &[u8]
     ensures { result.now ≡ part s.now a size }
 {
     let rest = tail_of(s, a);
-    if size <= rest.len() {
-        &rest[..size]
-    } else {
-        rest
-    }
+    rest.get(..size).unwrap_or(rest)
 }
 
 // Past the end nothing is stored.
@@ -43,18 +39,15 @@ pub fn put(s: &mut [u8], i: usize, v: u8)
 pub fn clear(s: &mut [u8])
     ensures { s.new ≡ replicate (length s.old) 0 }
 {
-    for i in 0..s.len() {
-        s[i] = 0;
-    }
+    s.fill(0);
 }
 
 // Copies all of src, where dst has just its length; else nothing.
-pub fn copy(dst: &mut [u8], src: &[u8])
+#[tactic(auto, unfolding(crate::specs::Memory::copied))]
+pub fn copy<T: Copy>(dst: &mut [T], src: &[T])
     ensures { dst.new ≡ copied dst.old src.now }
 {
     if dst.len() == src.len() {
-        for i in 0..dst.len() {
-            dst[i] = src[i];
-        }
+        dst.copy_from_slice(src);
     }
 }

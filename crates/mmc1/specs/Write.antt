@@ -1,12 +1,11 @@
 -- MMC1: what a write does: a move that the serial register, the byte and the address decide, applied to the board. House mode, and board mode where it differs.
-use Rattle.std.specs.Prelude.{ℕ, ◌+◌, ◌*◌, ◌/◌, ◌%◌, Bool, cond, ltb, eqb}
+use Rattle.std.specs.Prelude.{ℕ, ◌+◌, ◌*◌, ◌/◌, ◌%◌, Bool, cond, ltb, eqb, Option, Some, None}
 use Rattle.common.specs.Common.{is_signed}
+use Rattle.common.specs.declared.Outcome.{Outcome}
 use Rattle.common.specs.declared.Mode.{Mode}
 use Rattle.common.specs.declared.Mode.TheVariants.{House, Board}
 use Rattle.common.specs.declared.Mirroring.{Mirroring}
 use Rattle.common.specs.declared.Mirroring.TheVariants.{Horizontal, Vertical, SingleScreenUpper, SingleScreenLower}
-use Rattle.common.specs.declared.Mirrors.{Mirrors}
-use Rattle.common.specs.declared.Mirrors.TheVariants.{AsBefore, As}
 use Rattle.mmc1.specs.declared.Serial.{Serial}
 use Rattle.mmc1.specs.declared.Regs.{Regs}
 use Rattle.mmc1.specs.declared.Mmc1.{Mmc1}
@@ -14,7 +13,6 @@ use Rattle.mmc1.specs.declared.Register.{Register}
 use Rattle.mmc1.specs.declared.Register.TheVariants.{Control, Chr0, Chr1, Prg}
 use Rattle.mmc1.specs.declared.Move.{Move}
 use Rattle.mmc1.specs.declared.Move.TheVariants.{Nothing, Clear, Enter, Fill}
-use Rattle.mmc1.specs.declared.Wrote.{Wrote}
 
 -- "clears the serial register"
 abbrev pub empty : Serial
@@ -81,15 +79,19 @@ control_mirroring v =
     (cond (eqb (v % 4) 2) Vertical Horizontal))
 
 -- only a control load speaks of the screens
-unfoldable pub mirrors_of : Move → Mirrors
-mirrors_of Nothing = AsBefore
-mirrors_of Clear = AsBefore
-mirrors_of (Enter s) = AsBefore
-mirrors_of (Fill Control v) = As (control_mirroring v)
-mirrors_of (Fill Chr0 v) = AsBefore
-mirrors_of (Fill Chr1 v) = AsBefore
-mirrors_of (Fill Prg v) = AsBefore
+unfoldable pub mirrors_of : Move → Option Mirroring
+mirrors_of Nothing = None
+mirrors_of Clear = None
+mirrors_of (Enter s) = None
+mirrors_of (Fill Control v) = Some (control_mirroring v)
+mirrors_of (Fill Chr0 v) = None
+mirrors_of (Fill Chr1 v) = None
+mirrors_of (Fill Prg v) = None
 
 -- the board after a write, and what the write asks of the screens
+abbrev pub Wrote : Type 0
+Wrote = Outcome Mmc1 (Option Mirroring)
+
+-- both, of a write of a byte to an address
 unfoldable pub written : Mode → Mmc1 → ℕ → ℕ → Wrote
-written mode m v a = record { mmc1 = applied mode (move_of m.serial v a) m; mirrors = mirrors_of (move_of m.serial v a) }
+written mode m v a = record { left = applied mode (move_of m.serial v a) m; answer = mirrors_of (move_of m.serial v a) }

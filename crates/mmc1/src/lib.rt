@@ -2,8 +2,10 @@
 #![tactic(auto)]
 
 ghost use Rattle.std.specs.Prelude.{◌≡◌, cond, ◌%◌};
-ghost use Rattle.common.specs.Common.{KB8};
+ghost use Rattle.common.specs.Common.{KB4, KB8, KB16};
 ghost use Rattle.memory.specs.Memory.{byte};
+ghost use Rattle.banks.specs.Banks.{bank_start, bank_of};
+ghost use Rattle.cartridge.specs.Load.{prg_rom, prg_total, chr_data, chr_total};
 ghost use Rattle.places.specs.Places.{byte_at};
 ghost use Rattle.places.specs.Windows.{lands_in, board_chr};
 ghost use Rattle.places.specs.Windows.Window.{Chr4K, Prg16K};
@@ -13,18 +15,18 @@ ghost use Rattle.mmc1.specs.Range.{start, unused, is_unused, serial_fits, regs_f
 
 use banks::{Bank4K, Bank16K};
 use cartridge::Cartridge;
-use common::{Mirroring, Mirrors, Mode, bits, kilobytes};
+use common::{Mirroring, Mode, Outcome, bits, kilobytes};
 use memory::byte_at;
-use places::{Landing, Place};
+use places::{Landing, Lent, Place};
 
 // The bits that have entered, the last of them as bit 4.
-#[derive(Clone, Copy)]
+#[derive(Clone, Copy, Debug, PartialEq, Eq)]
 pub struct Serial {
     pub count: u8,
     pub value: u8,
 }
 
-#[derive(Clone, Copy)]
+#[derive(Clone, Copy, Debug, PartialEq, Eq)]
 pub struct Regs {
     pub prgmode: u8,
     pub chrmode: u8,
@@ -33,14 +35,14 @@ pub struct Regs {
     pub prg: u8,
 }
 
-#[derive(Clone, Copy)]
+#[derive(Clone, Copy, Debug, PartialEq, Eq)]
 pub struct Mmc1 {
     pub serial: Serial,
     pub regs: Regs,
 }
 
 // What a completed load goes to.
-#[derive(Clone, Copy)]
+#[derive(Clone, Copy, Debug, PartialEq, Eq)]
 pub enum Register {
     Control,
     Chr0,
@@ -49,7 +51,7 @@ pub enum Register {
 }
 
 // What a write does. The fifth bit fills a register with five bits.
-#[derive(Clone, Copy)]
+#[derive(Clone, Copy, Debug, PartialEq, Eq)]
 pub enum Move {
     Nothing,
     Clear,
@@ -58,12 +60,9 @@ pub enum Move {
 }
 
 // The board after a write, and what the write asks of the screens.
-#[derive(Clone, Copy)]
-pub struct Wrote {
-    pub mmc1: Mmc1,
-    pub mirrors: Mirrors,
-}
+pub type Wrote = Outcome<Mmc1, Option<Mirroring>>;
 
+#[tactic(auto, unfolding(crate::specs::Write::register_at))]
 fn register_at(address: u16) -> Register
     ensures { result ≡ register_at address }
 {
@@ -75,21 +74,21 @@ fn register_at(address: u16) -> Register
     }
 }
 
+#[tactic(auto, unfolding(crate::specs::Write::control_mirroring))]
 fn control_mirroring(bits: u8) -> Mirroring
     ensures { result ≡ control_mirroring bits }
 {
-    if bits % 4 == 0 {
-        Mirroring::SingleScreenLower
-    } else if bits % 4 == 1 {
-        Mirroring::SingleScreenUpper
-    } else if bits % 4 == 2 {
-        Mirroring::Vertical
-    } else {
-        Mirroring::Horizontal
+    match bits % 4 {
+        0 => Mirroring::SingleScreenLower,
+        1 => Mirroring::SingleScreenUpper,
+        2 => Mirroring::Vertical,
+        _ => Mirroring::Horizontal,
     }
 }
 
 impl Serial {
+    pub const EMPTY: Serial = Serial { count: 0, value: 0 };
+
     // Least bit first: the new bit enters as bit 4, the others move down.
     fn shifted(self, value: u8) -> u8
         ensures { result ≡ shifted self value }
@@ -98,18 +97,18 @@ impl Serial {
     }
 
     // What the Rust's write_to_shift_register does, as a value. Only the fifth address chooses the register.
+    #[tactic(auto, unfolding(crate::specs::Write::move_of))]
     pub fn move_of(self, value: u8, address: u16) -> Move
         ensures { result ≡ move_of self value address }
     {
-        let count = self.count;
         let shifted = self.shifted(value);
         if address < 0x8000 {
             Move::Nothing
         } else if bits::is_signed(value) {
             Move::Clear
-        } else if count < 4 {
+        } else if self.count < 4 {
             Move::Enter(Serial {
-                count: count + 1,
+                count: self.count + 1,
                 value: shifted,
             })
         } else {
@@ -130,35 +129,28 @@ impl Move {
     pub fn applied(self, mode: Mode, mmc1: Mmc1) -> Mmc1
         ensures { result ≡ applied mode self mmc1 }
     {
-        let regs = mmc1.regs;
         match self {
             Move::Nothing => mmc1,
             Move::Clear => Mmc1 {
-                serial: Serial { count: 0, value: 0 },
-                regs: regs.reset(mode),
+                serial: Serial::EMPTY,
+                regs: mmc1.regs.reset(mode),
             },
-            Move::Enter(serial) => Mmc1 { serial, regs },
+            Move::Enter(serial) => Mmc1 { serial, ..mmc1 },
             Move::Fill(register, bits) => Mmc1 {
-                serial: Serial { count: 0, value: 0 },
-                regs: regs.load(mode, register, bits),
+                serial: Serial::EMPTY,
+                regs: mmc1.regs.load(mode, register, bits),
             },
         }
     }
 
     // What it asks of the screens.
-    pub fn mirrors(self) -> Mirrors
+    #[tactic(auto, unfolding(crate::specs::Write::mirrors_of))]
+    pub fn mirrors(self) -> Option<Mirroring>
         ensures { result ≡ mirrors_of self }
     {
         match self {
-            Move::Nothing => Mirrors::AsBefore,
-            Move::Clear => Mirrors::AsBefore,
-            Move::Enter(_) => Mirrors::AsBefore,
-            Move::Fill(register, bits) => match register {
-                Register::Control => Mirrors::As(control_mirroring(bits)),
-                Register::Chr0 => Mirrors::AsBefore,
-                Register::Chr1 => Mirrors::AsBefore,
-                Register::Prg => Mirrors::AsBefore,
-            },
+            Move::Fill(Register::Control, bits) => Some(control_mirroring(bits)),
+            _ => None,
         }
     }
 }
@@ -200,90 +192,91 @@ impl Regs {
         }
     }
 
-    fn load(mut self, mode: Mode, register: Register, bits: u8) -> Regs
+    #[tactic(auto, unfolding(crate::specs::Write::load))]
+    fn load(self, mode: Mode, register: Register, bits: u8) -> Regs
         ensures { result ≡ load mode self register bits }
     {
         match register {
-            Register::Control => {
-                self.prgmode = bits / 4 % 4;
-                self.chrmode = bits / 16 % 2;
-                self
-            }
-            Register::Chr0 => {
-                let bank = self.stored_chr0(mode, bits);
-                self.chr0 = bank;
-                self
-            }
-            Register::Chr1 => {
-                let bank = self.stored_chr1(mode, bits);
-                self.chr1 = bank;
-                self
-            }
-            Register::Prg => {
-                self.prg = bits % 16;
-                self
-            }
+            Register::Control => Regs {
+                prgmode: bits / 4 % 4,
+                chrmode: bits / 16 % 2,
+                ..self
+            },
+            Register::Chr0 => Regs {
+                chr0: self.stored_chr0(mode, bits),
+                ..self
+            },
+            Register::Chr1 => Regs {
+                chr1: self.stored_chr1(mode, bits),
+                ..self
+            },
+            Register::Prg => Regs {
+                prg: bits % 16,
+                ..self
+            },
         }
     }
 
     // A write with bit 7 sets PRG mode 3 on the real board, and in the Rust no register.
     #[tactic(auto, unfolding(crate::specs::Write::reset))]
-    fn reset(mut self, mode: Mode) -> Regs
+    fn reset(self, mode: Mode) -> Regs
         ensures { result ≡ reset mode self }
     {
         match mode {
             Mode::House => self,
-            Mode::Board => {
-                self.prgmode = 3;
-                self
-            }
+            Mode::Board => Regs { prgmode: 3, ..self },
         }
     }
 
+    #[tactic(auto, unfolding(crate::specs::Read::lower_prg))]
     fn lower_prg(self, mode: Mode) -> Bank16K
         ensures { result.0 ≡ lower_prg mode self }
     {
         if self.switches_32kb() {
-            Bank16K(prg_pair(mode, self.prg) as u32)
+            Bank16K::new(prg_pair(mode, self.prg) as u32)
         } else if self.prgmode == 2 {
-            Bank16K(0)
+            Bank16K::new(0)
         } else {
-            Bank16K(self.prg as u32)
+            Bank16K::new(self.prg as u32)
         }
     }
 
+    #[tactic(auto, unfolding(crate::specs::Read::upper_prg))]
     fn upper_prg(self, mode: Mode, last: u32) -> Bank16K
         ensures { result.0 ≡ upper_prg mode self last }
     {
         if self.switches_32kb() {
-            Bank16K((prg_pair(mode, self.prg) as u32) + 1)
+            Bank16K::new((prg_pair(mode, self.prg) as u32) + 1)
         } else if self.prgmode == 2 {
-            Bank16K(self.prg as u32)
+            Bank16K::new(self.prg as u32)
         } else {
-            Bank16K(last)
+            Bank16K::new(last)
         }
     }
 
+    #[tactic(auto, unfolding(crate::specs::Read::lower_chr))]
     fn lower_chr(self, mode: Mode) -> Bank4K
         ensures { result.0 ≡ lower_chr mode self }
     {
         if self.switches_8kb() {
-            Bank4K(chr_pair(mode, self.chr0) as u32)
+            Bank4K::new(chr_pair(mode, self.chr0) as u32)
         } else {
-            Bank4K(self.chr0 as u32)
+            Bank4K::new(self.chr0 as u32)
         }
     }
 
+    #[tactic(auto, unfolding(crate::specs::Read::upper_chr))]
     fn upper_chr(self, mode: Mode) -> Bank4K
         ensures { result.0 ≡ upper_chr mode self }
     {
         if self.switches_8kb() {
-            Bank4K((chr_pair(mode, self.chr0) as u32) + 1)
+            Bank4K::new((chr_pair(mode, self.chr0) as u32) + 1)
         } else {
-            Bank4K(self.chr1 as u32)
+            Bank4K::new(self.chr1 as u32)
         }
     }
 
+    #[tactic(auto, unfolding(crate::specs::Range::regs_fits))]
     pub fn fits(self) -> bool
         ensures { result ≡ regs_fits self }
     {
@@ -317,6 +310,21 @@ fn chr_pair(mode: Mode, chr0: u8) -> u8
     }
 }
 
+// The bytes of a bank: a part of the lent image, or of CHR RAM.
+fn prg_bytes(cart: Cartridge, bank: Bank16K, image: &[u8]) -> &[u8]
+    ensures { result.now ≡ bank_of (prg_rom image.now) (bank_start cart.mode bank.0 KB16 (prg_total cart)) KB16 }
+{
+    let start = bank.start(cart.mode, cart.prg_total());
+    banks::bank_of(cart.prg_rom(image), start, kilobytes::KB16)
+}
+
+fn chr_bytes<'a>(cart: Cartridge, bank: Bank4K, image: &'a [u8], ram: &'a [u8]) -> &'a [u8]
+    ensures { result.now ≡ bank_of (chr_data cart image.now ram.now) (bank_start cart.mode bank.0 KB4 (chr_total cart)) KB4 }
+{
+    let start = bank.start(cart.mode, cart.chr_total());
+    banks::bank_of(cart.chr_data(image, ram), start, kilobytes::KB4)
+}
+
 // The byte of PRG RAM at 6000-7FFF, 0 where there is no such RAM.
 fn prg_ram_byte(cart: Cartridge, prg: &[u8], address: u16) -> u8
     ensures { result ≡ cond cart.prgram (byte prg.now (address % KB8)) 0 }
@@ -334,7 +342,7 @@ impl Mmc1 {
         ensures { result ≡ start }
     {
         Mmc1 {
-            serial: Serial { count: 0, value: 0 },
+            serial: Serial::EMPTY,
             regs: Regs {
                 prgmode: 3,
                 chrmode: 0,
@@ -350,7 +358,7 @@ impl Mmc1 {
         ensures { result ≡ unused }
     {
         Mmc1 {
-            serial: Serial { count: 0, value: 0 },
+            serial: Serial::EMPTY,
             regs: Regs {
                 prgmode: 0,
                 chrmode: 0,
@@ -361,76 +369,68 @@ impl Mmc1 {
         }
     }
 
+    #[tactic(auto, unfolding(crate::specs::Range::is_unused))]
     pub fn is_unused(self) -> bool
         ensures { result ≡ is_unused self }
     {
-        let s = self.serial;
-        let r = self.regs;
-        (s.count == 0)
-            & (s.value == 0)
-            & (r.prgmode == 0)
-            & (r.chrmode == 0)
-            & (r.chr0 == 0)
-            & (r.chr1 == 0)
-            & (r.prg == 0)
+        self == Mmc1::unused()
     }
 
     #[tactic(auto, unfolding(crate::specs::Range::fits))]
     pub fn fits(self) -> bool
         ensures { result ≡ fits self }
     {
-        let serial = self.serial;
-        let regs = self.regs;
-        serial.fits() & regs.fits()
+        self.serial.fits() & self.regs.fits()
     }
 
+    #[tactic(auto, unfolding(crate::specs::Write::written))]
     pub fn write8(self, mode: Mode, value: u8, address: u16) -> Wrote
         ensures { result ≡ written mode self value address }
     {
-        let serial = self.serial;
-        let made = serial.move_of(value, address);
-        Wrote {
-            mmc1: made.applied(mode, self),
-            mirrors: made.mirrors(),
+        let made = self.serial.move_of(value, address);
+        Outcome {
+            left: made.applied(mode, self),
+            answer: made.mirrors(),
         }
     }
 
+    #[tactic(auto, unfolding(crate::specs::Read::chr_bank))]
     fn chr_bank(self, cart: Cartridge, address: u16) -> Bank4K
         ensures { result.0 ≡ chr_bank self cart address }
     {
-        let regs = self.regs;
-        let mode = cart.mode;
         if address < 0x1000 {
-            regs.lower_chr(mode)
+            self.regs.lower_chr(cart.mode)
         } else {
-            regs.upper_chr(mode)
+            self.regs.upper_chr(cart.mode)
         }
     }
 
+    #[tactic(auto, unfolding(crate::specs::Read::prg_bank))]
     fn prg_bank(self, cart: Cartridge, address: u16) -> Bank16K
         ensures { result.0 ≡ prg_bank self cart address }
     {
-        let regs = self.regs;
-        let mode = cart.mode;
         if address < 0xc000 {
-            regs.lower_prg(mode)
+            self.regs.lower_prg(cart.mode)
         } else {
-            regs.upper_prg(mode, cart.last_prg())
+            self.regs.upper_prg(cart.mode, cart.last_prg())
         }
     }
 
+    #[tactic(auto, unfolding(places::specs::Windows::lands_in))]
     fn read_chr(self, cart: Cartridge, address: u16) -> Landing
         ensures { result ≡ lands_in cart (Chr4K (chr_bank self cart address)) address }
     {
-        places::chr_4k(cart, self.chr_bank(cart, address), address)
+        places::chr_bank(cart, self.chr_bank(cart, address), address)
     }
 
+    #[tactic(auto, unfolding(places::specs::Windows::lands_in))]
     fn read_prg(self, cart: Cartridge, address: u16) -> Landing
         ensures { result ≡ lands_in cart (Prg16K (prg_bank self cart address)) address }
     {
-        places::prg_16k(cart, self.prg_bank(cart, address), address)
+        places::prg_bank(cart, self.prg_bank(cart, address), address)
     }
 
+    #[tactic(auto, unfolding(places::specs::Windows::lands_in, crate::specs::Read::read_window, places::specs::Windows::in_windows))]
     pub fn read_landing(self, cart: Cartridge, address: u16) -> Landing
         ensures { result ≡ lands_in cart (read_window self cart address) address }
     {
@@ -438,7 +438,7 @@ impl Mmc1 {
             0x0000..=0x1fff => self.read_chr(cart, address),
             0x6000..=0x7fff => places::if_prg_ram(cart, address),
             0x8000..=0xffff => self.read_prg(cart, address),
-            _ => Landing::At(Place::Nowhere),
+            _ => Ok(Place::Nowhere),
         }
     }
 
@@ -453,68 +453,50 @@ impl Mmc1 {
     pub fn write_landing(self, cart: Cartridge, address: u16) -> Landing
         ensures { result ≡ lands_in cart (write_window self cart address) address }
     {
-        let mode = cart.mode;
         match address {
-            0x0000..=0x1fff => match mode {
+            0x0000..=0x1fff => match cart.mode {
                 Mode::House => places::house_chr(cart, address),
                 Mode::Board => self.board_write_chr(cart, address),
             },
             0x6000..=0x7fff => places::if_prg_ram(cart, address),
-            _ => Landing::At(Place::Nowhere),
+            _ => Ok(Place::Nowhere),
         }
     }
 
+    #[tactic(auto, unfolding(crate::specs::Read::lower_prg_bank))]
+    // The four banks, each a function of its own as document 01 asks, over one for PRG and one for CHR.
     pub fn lower_prg_bank(self, cart: Cartridge, image: &[u8]) -> &[u8]
         ensures { result.now ≡ lower_prg_bank self cart image.now }
     {
-        let regs = self.regs;
-        let mode = cart.mode;
-        let start = regs.lower_prg(mode).start(mode, cart.prg_total());
-        banks::bank_of(cart.prg_rom(image), start, kilobytes::KB16)
+        prg_bytes(cart, self.regs.lower_prg(cart.mode), image)
     }
 
+    #[tactic(auto, unfolding(crate::specs::Read::upper_prg_bank))]
     pub fn upper_prg_bank(self, cart: Cartridge, image: &[u8]) -> &[u8]
         ensures { result.now ≡ upper_prg_bank self cart image.now }
     {
-        let regs = self.regs;
-        let mode = cart.mode;
-        let bank = regs.upper_prg(mode, cart.last_prg());
-        banks::bank_of(
-            cart.prg_rom(image),
-            bank.start(mode, cart.prg_total()),
-            kilobytes::KB16,
-        )
+        prg_bytes(cart, self.regs.upper_prg(cart.mode, cart.last_prg()), image)
     }
 
+    #[tactic(auto, unfolding(crate::specs::Read::lower_chr_bank))]
     pub fn lower_chr_bank<'a>(self, cart: Cartridge, image: &'a [u8], ram: &'a [u8]) -> &'a [u8]
         ensures { result.now ≡ lower_chr_bank self cart image.now ram.now }
     {
-        let regs = self.regs;
-        let mode = cart.mode;
-        let start = regs.lower_chr(mode).start(mode, cart.chr_total());
-        banks::bank_of(cart.chr_data(image, ram), start, kilobytes::KB4)
+        chr_bytes(cart, self.regs.lower_chr(cart.mode), image, ram)
     }
 
+    #[tactic(auto, unfolding(crate::specs::Read::upper_chr_bank))]
     pub fn upper_chr_bank<'a>(self, cart: Cartridge, image: &'a [u8], ram: &'a [u8]) -> &'a [u8]
         ensures { result.now ≡ upper_chr_bank self cart image.now ram.now }
     {
-        let regs = self.regs;
-        let mode = cart.mode;
-        let start = regs.upper_chr(mode).start(mode, cart.chr_total());
-        banks::bank_of(cart.chr_data(image, ram), start, kilobytes::KB4)
+        chr_bytes(cart, self.regs.upper_chr(cart.mode), image, ram)
     }
 
     // The byte that a read finds, from the bank that shows it; 0 where there is none.
-    pub fn read8<'a>(
-        self,
-        cart: Cartridge,
-        image: &'a [u8],
-        prg: &[u8],
-        chr: &'a [u8],
-        address: u16,
-    ) -> u8
-        ensures { result ≡ byte_at cart (lands_in cart (read_window self cart address) address) image.now prg.now chr.now }
+    pub fn read8(self, cart: Cartridge, lent: Lent<'_>, address: u16) -> u8
+        ensures { result ≡ byte_at cart (lands_in cart (read_window self cart address) address) lent.entry.image.now lent.entry.prg.now lent.entry.chr.now }
     {
+        let Lent { image, prg, chr } = lent;
         let in_chr = (address % 4096) as usize;
         let in_prg = (address % 16384) as usize;
         match address {

@@ -1,15 +1,22 @@
 -- MMC3: the interrupt unit and its clock, and the line that the real board's unit raises. "M-101" is that request of document 02.
 use Rattle.std.specs.Prelude.{ℕ, ◌-◌, Bool, false, cond, ◌&&◌, ◌||◌, ltb, eqb}
+use Rattle.common.specs.declared.Outcome.{Outcome}
 use Rattle.common.specs.declared.Mode.{Mode}
 use Rattle.common.specs.declared.Mode.TheVariants.{House, Board}
 use Rattle.mmc3.specs.declared.Irq.{Irq}
-use Rattle.mmc3.specs.declared.Clocked.{Clocked}
 use Rattle.mmc3.specs.declared.Mmc3.{Mmc3}
-use Rattle.mmc3.specs.declared.Ticked.{Ticked}
+
+-- the unit after a clock, and whether it raises the line; in house mode, whether an interrupt comes
+abbrev pub Clocked : Type 0
+Clocked = Outcome Irq Bool
+
+-- the board after a clock, and its answer
+abbrev pub Ticked : Type 0
+Ticked = Outcome Mmc3 Bool
 
 -- the unit with a new counter and the mark cleared, and an answer
 abbrev pub at : Irq → ℕ → Bool → Clocked
-at i n answer = record { irq = record { enabled = i.enabled; latch = i.latch; counter = n; reload = false }; answer = answer }
+at i n answer = record { left = record { enabled = i.enabled; latch = i.latch; counter = n; reload = false }; answer = answer }
 
 -- house: "With the reload mark: counter becomes the latch, mark cleared, answer no. Else at counter 0: counter becomes the latch, answer is `enabled`. Else count down, answer no"
 unfoldable pub house_clock : Irq → Clocked
@@ -54,7 +61,7 @@ unfoldable pub clocked : Mode → Mmc3 → Ticked
 clocked mode m =
     let c = clock_in mode m.irq in
     let level = line_after mode m.line c.answer in
-    record { mmc3 = with_line (with_irq m c.irq) level; answer = clock_answer mode level c.answer }
+    record { left = with_line (with_irq m c.left) level; answer = clock_answer mode level c.answer }
 
 -- refusal 14: "IRQ enabled, counter 0 or 1"
 abbrev pub is_pending : Irq → Bool

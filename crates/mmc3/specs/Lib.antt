@@ -3,4 +3,3 @@ pub mod Clock
 pub mod Write
 pub mod Read
 pub mod Range
-pub mod Steps

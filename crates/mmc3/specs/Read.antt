@@ -9,21 +9,18 @@ use Rattle.places.specs.Windows.Window.{Prg8K, Chr1K, Empty, Refused}
 use Rattle.mmc3.specs.Clock.{is_pending}
 use Rattle.mmc3.specs.Ram.{ram_read, ram_written}
 use Rattle.mmc3.specs.Write.{is_even}
+use Rattle.mmc3.specs.declared.Choice.{Choice}
+use Rattle.mmc3.specs.declared.Choice.TheVariants.{R, After}
 use Rattle.mmc3.specs.declared.Mmc3.{Mmc3}
-
--- a register choice: Rn, or the bank after it
-pub data Choice : Type 0 where
-  R : ℕ → Choice
-  R+1 : ℕ → Choice
 
 -- "two rows of eight register choices, one row per CHR mode: R0, R0+1, R1, R1+1, R2, R3, R4, R5; then R2, R3, R4, R5, R0, R0+1, R1, R1+1"
 abbrev pub choices : List (List Choice)
 choices =
-    (R 0 ∷ R+1 0 ∷ R 1 ∷ R+1 1 ∷ R 2 ∷ R 3 ∷ R 4 ∷ R 5 ∷ [])
-    ∷ (R 2 ∷ R 3 ∷ R 4 ∷ R 5 ∷ R 0 ∷ R+1 0 ∷ R 1 ∷ R+1 1 ∷ [])
+    (R 0 ∷ After 0 ∷ R 1 ∷ After 1 ∷ R 2 ∷ R 3 ∷ R 4 ∷ R 5 ∷ [])
+    ∷ (R 2 ∷ R 3 ∷ R 4 ∷ R 5 ∷ R 0 ∷ After 0 ∷ R 1 ∷ After 1 ∷ [])
     ∷ []
 
--- the choice of a CHR mode for a 1 KB slot
+-- the choice (`After n` is Rn+1) of a CHR mode for a 1 KB slot
 unfoldable pub choice_at : ℕ → ℕ → Choice
 choice_at mode slot = get_or (get_or choices mode []) slot (R 0)
 
@@ -34,7 +31,7 @@ register m k = get_or m.regs k 0
 -- the bank that a choice names
 unfoldable pub chosen : Mmc3 → Choice → ℕ
 chosen m (R n) = register m n
-chosen m (R+1 n) = register m n + 1
+chosen m (After n) = register m n + 1
 
 -- "CHR choices, 1 KB each"
 unfoldable pub chr_bank : Mmc3 → ℕ → ℕ

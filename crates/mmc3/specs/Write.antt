@@ -1,17 +1,15 @@
 -- MMC3: what a write does: a move that its address and byte decide, applied to the board.
-use Rattle.std.specs.Prelude.{ℕ, ◌*◌, ◌/◌, ◌%◌, Bool, true, false, cond, ltb, leb, eqb, set}
+use Rattle.std.specs.Prelude.{ℕ, ◌*◌, ◌/◌, ◌%◌, Bool, true, false, cond, ltb, leb, eqb, set, Option, Some, None}
+use Rattle.common.specs.declared.Outcome.{Outcome}
 use Rattle.common.specs.declared.Mode.{Mode}
 use Rattle.common.specs.declared.Mirroring.{Mirroring}
 use Rattle.common.specs.declared.Mirroring.TheVariants.{Horizontal, Vertical}
-use Rattle.common.specs.declared.Mirrors.{Mirrors}
-use Rattle.common.specs.declared.Mirrors.TheVariants.{AsBefore, As}
 use Rattle.mmc3.specs.Clock.{with_irq, with_line}
 use Rattle.mmc3.specs.Ram.{marks_after}
 use Rattle.mmc3.specs.declared.Mmc3.{Mmc3}
 use Rattle.mmc3.specs.declared.Move.{Move}
 use Rattle.mmc3.specs.declared.Move.TheVariants.{Nothing, Select, Data, Screens, Protect, Latch, Reload, Enable, Disable}
 use Rattle.mmc3.specs.declared.RamMarks.{RamMarks}
-use Rattle.mmc3.specs.declared.Wrote.{Wrote}
 
 -- "even"; what is not even is "odd"
 abbrev pub is_even : ℕ → Bool
@@ -67,17 +65,21 @@ unfoldable pub screens : ℕ → Mirroring
 screens v = cond (eqb (v % 2) 1) Horizontal Vertical
 
 -- only an "A000 write" speaks of the screens
-unfoldable pub mirrors_of : Move → Mirrors
-mirrors_of (Screens v) = As (screens v)
-mirrors_of Nothing = AsBefore
-mirrors_of (Select v) = AsBefore
-mirrors_of (Data v) = AsBefore
-mirrors_of (Protect v) = AsBefore
-mirrors_of (Latch v) = AsBefore
-mirrors_of Reload = AsBefore
-mirrors_of Enable = AsBefore
-mirrors_of Disable = AsBefore
+unfoldable pub mirrors_of : Move → Option Mirroring
+mirrors_of (Screens v) = Some (screens v)
+mirrors_of Nothing = None
+mirrors_of (Select v) = None
+mirrors_of (Data v) = None
+mirrors_of (Protect v) = None
+mirrors_of (Latch v) = None
+mirrors_of Reload = None
+mirrors_of Enable = None
+mirrors_of Disable = None
 
 -- the board after a write, and what the write asks of the screens
+abbrev pub Wrote : Type 0
+Wrote = Outcome Mmc3 (Option Mirroring)
+
+-- both, of a write of a byte to an address
 unfoldable pub written : Mode → Mmc3 → ℕ → ℕ → Wrote
-written mode m v a = record { mmc3 = applied mode (move_of v a) m; mirrors = mirrors_of (move_of v a) }
+written mode m v a = record { left = applied mode (move_of v a) m; answer = mirrors_of (move_of v a) }

@@ -8,17 +8,17 @@ ghost use Rattle.places.specs.Windows.Window.{Chr1K, Prg8K};
 ghost use Rattle.mmc3.specs.Ram.{marks_after, ram_read, ram_written};
 ghost use Rattle.mmc3.specs.Clock.{at, house_clock, next_counter, board_clock, clock_in, line_after, clock_answer, clocked, is_pending};
 ghost use Rattle.mmc3.specs.Write.{move_of, data_bits, applied, screens, mirrors_of, written};
-ghost use Rattle.mmc3.specs.Read.{register, chr_bank, last_bank, last_but_one, prg_bank, read_window, acknowledged, write_window};
-ghost use Rattle.mmc3.specs.Steps.{choice};
+ghost use Rattle.mmc3.specs.Read.{choice_at, register, chr_bank, last_bank, last_but_one, prg_bank, read_window, acknowledged, write_window};
 ghost use Rattle.mmc3.specs.Range.{start, irq_is_start, ram_is_start, is_start, line_fits, ram_fits, fits};
 
+use Choice::{After, R};
 use banks::{Bank1K, Bank8K};
 use cartridge::Cartridge;
-use common::{Mirroring, Mirrors, Mode, Refusal};
+use common::{Mirroring, Mode, Outcome, Refusal};
 use places::{Landing, Place};
 
 // The interrupt unit.
-#[derive(Clone, Copy)]
+#[derive(Clone, Copy, Debug, PartialEq, Eq)]
 pub struct Irq {
     pub enabled: bool,
     pub latch: u8,
@@ -27,14 +27,14 @@ pub struct Irq {
 }
 
 // What the real board lets a program do with PRG RAM. In house mode it is always enabled and writable.
-#[derive(Clone, Copy)]
+#[derive(Clone, Copy, Debug, PartialEq, Eq)]
 pub struct RamMarks {
     pub enabled: bool,
     // Writes are denied.
     pub denied: bool,
 }
 
-#[derive(Clone, Copy)]
+#[derive(Clone, Copy, Debug, PartialEq, Eq)]
 pub struct Mmc3 {
     // The register that a data write goes to.
     pub select: u8,
@@ -48,21 +48,16 @@ pub struct Mmc3 {
 }
 
 // The unit after a clock, and whether it raises the line; in house mode, whether an interrupt comes.
-#[derive(Clone, Copy)]
-pub struct Clocked {
-    pub irq: Irq,
-    pub answer: bool,
-}
+pub type Clocked = Outcome<Irq, bool>;
 
 // The board after a clock, and its answer.
-#[derive(Clone, Copy)]
-pub struct Ticked {
-    pub mmc3: Mmc3,
-    pub answer: bool,
-}
+pub type Ticked = Outcome<Mmc3, bool>;
+
+// The board after a write, and what the write asks of the screens.
+pub type Wrote = Outcome<Mmc3, Option<Mirroring>>;
 
 // What a write does: the register that its address names, with the byte where it counts.
-#[derive(Clone, Copy)]
+#[derive(Clone, Copy, Debug, PartialEq, Eq)]
 pub enum Move {
     Nothing,
     Select(u8),
@@ -75,49 +70,46 @@ pub enum Move {
     Disable,
 }
 
-// The board after a write, and what the write asks of the screens.
-#[derive(Clone, Copy)]
-pub struct Wrote {
-    pub mmc3: Mmc3,
-    pub mirrors: Mirrors,
-}
-
 impl Irq {
+    const START: Irq = Irq {
+        enabled: false,
+        latch: 0,
+        counter: 0,
+        reload: false,
+    };
+
     fn set_to(self, counter: u8, answer: bool) -> Clocked
         ensures { result ≡ at self counter answer }
     {
-        Clocked {
-            irq: Irq {
-                enabled: self.enabled,
-                latch: self.latch,
+        Outcome {
+            left: Irq {
                 counter,
                 reload: false,
+                ..self
             },
             answer,
         }
     }
 
     // The Rust answers no at the clock that reloads by the mark, whatever the latch.
+    #[tactic(auto, unfolding(crate::specs::Clock::house_clock))]
     pub fn house_clock(self) -> Clocked
         ensures { result ≡ house_clock self }
     {
         if self.reload {
-            return self.set_to(self.latch, false);
-        }
-        if self.counter == 0 {
+            self.set_to(self.latch, false)
+        } else if self.counter == 0 {
             self.set_to(self.latch, self.enabled)
         } else {
             self.set_to(self.counter - 1, false)
         }
     }
 
+    #[tactic(auto, unfolding(crate::specs::Clock::next_counter))]
     fn next_counter(self) -> u8
         ensures { result ≡ next_counter self }
     {
-        if self.reload {
-            return self.latch;
-        }
-        if self.counter == 0 {
+        if self.reload | (self.counter == 0) {
             self.latch
         } else {
             self.counter - 1
@@ -125,6 +117,7 @@ impl Irq {
     }
 
     // The real unit looks at the counter after it has moved.
+    #[tactic(auto, unfolding(crate::specs::Clock::board_clock))]
     pub fn board_clock(self) -> Clocked
         ensures { result ≡ board_clock self }
     {
@@ -149,10 +142,11 @@ impl Irq {
         self.enabled & (self.counter < 2)
     }
 
+    #[tactic(auto, unfolding(crate::specs::Range::irq_is_start))]
     fn is_start(self) -> bool
         ensures { result ≡ irq_is_start self }
     {
-        !self.enabled & (self.latch == 0) & (self.counter == 0) & !self.reload
+        self == Irq::START
     }
 }
 
@@ -189,10 +183,16 @@ fn line_fits(mode: Mode, line: bool) -> bool
 }
 
 impl RamMarks {
+    const START: RamMarks = RamMarks {
+        enabled: true,
+        denied: false,
+    };
+
+    #[tactic(auto, unfolding(crate::specs::Range::ram_is_start))]
     fn is_start(self) -> bool
         ensures { result ≡ ram_is_start self }
     {
-        self.enabled & !self.denied
+        self == RamMarks::START
     }
 
     #[tactic(auto, unfolding(crate::specs::Range::ram_fits))]
@@ -219,44 +219,54 @@ impl RamMarks {
         }
     }
 
+    #[tactic(auto, unfolding(crate::specs::Ram::ram_read, places::specs::Windows::lands_in))]
     fn read_landing(self, cart: Cartridge, address: u16) -> Landing
         ensures { result ≡ lands_in cart (ram_read self cart) address }
     {
         if self.enabled {
             places::if_prg_ram(cart, address)
         } else {
-            Landing::At(Place::Nowhere)
+            Ok(Place::Nowhere)
         }
     }
 
+    #[tactic(auto, unfolding(crate::specs::Ram::ram_written, places::specs::Windows::lands_in))]
     fn write_landing(self, cart: Cartridge, address: u16) -> Landing
         ensures { result ≡ lands_in cart (ram_written self cart) address }
     {
         if self.enabled & !self.denied {
             places::if_prg_ram(cart, address)
         } else {
-            Landing::At(Place::Nowhere)
+            Ok(Place::Nowhere)
         }
     }
 }
 
-// Rn as 2n and Rn + 1 as 2n + 1: a row for each CHR mode, an entry for each 1 KB slot.
-const CHOICES: [[u8; 8]; 2] = [[0, 1, 2, 3, 4, 6, 8, 10], [4, 6, 8, 10, 0, 1, 2, 3]];
+// What a slot of 1 KB of CHR shows: the bank in register Rn, or the one after it.
+#[derive(Clone, Copy, Debug, PartialEq, Eq)]
+pub enum Choice {
+    R(u8),
+    After(u8),
+}
 
-fn choice(mode: u8, slot: u16) -> u8
-    ensures { result ≡ choice mode slot }
+// A row for each CHR mode, an entry for each slot.
+const CHOICES: [[Choice; 8]; 2] = [
+    [R(0), After(0), R(1), After(1), R(2), R(3), R(4), R(5)],
+    [R(2), R(3), R(4), R(5), R(0), After(0), R(1), After(1)],
+];
+
+#[tactic(auto, unfolding(crate::specs::Read::choice_at))]
+fn choice_at(mode: u8, slot: u16) -> Choice
+    ensures { result ≡ choice_at mode slot }
 {
-    let m = mode as usize;
-    let s = slot as usize;
-    if m < 2 {
-        if s < 8 {
-            return CHOICES[m][s];
-        }
+    match CHOICES.get(mode as usize) {
+        Some(row) => row.get(slot as usize).copied().unwrap_or(R(0)),
+        None => R(0),
     }
-    0
 }
 
 // What register a data write fills decides which of its bits are kept.
+#[tactic(auto, unfolding(crate::specs::Write::data_bits))]
 fn data_bits(select: u8, value: u8) -> u8
     ensures { result ≡ data_bits select value }
 {
@@ -270,26 +280,21 @@ fn data_bits(select: u8, value: u8) -> u8
 }
 
 // The last 8 KB bank, and the one before it; 0 where there is none.
+#[tactic(auto, unfolding(crate::specs::Read::last_bank))]
 fn last_bank(cart: Cartridge) -> Bank8K
     ensures { result.0 ≡ last_bank cart }
 {
-    if cart.prg == 0 {
-        Bank8K(0)
-    } else {
-        Bank8K((cart.prg as u32) * 2 - 1)
-    }
+    Bank8K::new(((cart.prg as u32) * 2).saturating_sub(1))
 }
 
+#[tactic(auto, unfolding(crate::specs::Read::last_but_one))]
 fn last_but_one(cart: Cartridge) -> Bank8K
     ensures { result.0 ≡ last_but_one cart }
 {
-    if cart.prg == 0 {
-        Bank8K(0)
-    } else {
-        Bank8K((cart.prg as u32) * 2 - 2)
-    }
+    Bank8K::new(((cart.prg as u32) * 2).saturating_sub(2))
 }
 
+#[tactic(auto, unfolding(crate::specs::Write::screens))]
 fn screens(value: u8) -> Mirroring
     ensures { result ≡ screens value }
 {
@@ -300,6 +305,7 @@ fn screens(value: u8) -> Mirroring
     }
 }
 
+#[tactic(auto, unfolding(crate::specs::Write::move_of))]
 pub fn move_of(value: u8, address: u16) -> Move
     ensures { result ≡ move_of value address }
 {
@@ -353,24 +359,19 @@ impl Move {
     }
 
     // What it asks of the screens.
-    pub fn mirrors(self) -> Mirrors
+    #[tactic(auto, unfolding(crate::specs::Write::mirrors_of))]
+    pub fn mirrors(self) -> Option<Mirroring>
         ensures { result ≡ mirrors_of self }
     {
         match self {
-            Move::Screens(value) => Mirrors::As(screens(value)),
-            Move::Nothing => Mirrors::AsBefore,
-            Move::Select(_) => Mirrors::AsBefore,
-            Move::Data(_) => Mirrors::AsBefore,
-            Move::Protect(_) => Mirrors::AsBefore,
-            Move::Latch(_) => Mirrors::AsBefore,
-            Move::Reload => Mirrors::AsBefore,
-            Move::Enable => Mirrors::AsBefore,
-            Move::Disable => Mirrors::AsBefore,
+            Move::Screens(value) => Some(screens(value)),
+            _ => None,
         }
     }
 }
 
 impl Mmc3 {
+    #[tactic(auto, unfolding(crate::specs::Range::start))]
     pub fn new() -> Self
         ensures { result ≡ start }
     {
@@ -378,42 +379,18 @@ impl Mmc3 {
             select: 0,
             prgmode: 0,
             chrmode: 0,
-            regs: [0, 0, 0, 0, 0, 0, 0, 0],
-            irq: Irq {
-                enabled: false,
-                latch: 0,
-                counter: 0,
-                reload: false,
-            },
+            regs: [0; 8],
+            irq: Irq::START,
             line: false,
-            ram: RamMarks {
-                enabled: true,
-                denied: false,
-            },
+            ram: RamMarks::START,
         }
     }
 
+    #[tactic(auto, unfolding(crate::specs::Range::is_start, crate::specs::Read::register))]
     pub fn is_start(self) -> bool
         ensures { result ≡ is_start self }
     {
-        let irq = self.irq;
-        let ram = self.ram;
-        let r = self.regs;
-        let banks = (r[0] == 0)
-            & (r[1] == 0)
-            & (r[2] == 0)
-            & (r[3] == 0)
-            & (r[4] == 0)
-            & (r[5] == 0)
-            & (r[6] == 0)
-            & (r[7] == 0);
-        (self.select == 0)
-            & (self.prgmode == 0)
-            & (self.chrmode == 0)
-            & banks
-            & !self.line
-            & irq.is_start()
-            & ram.is_start()
+        self == Mmc3::new()
     }
 
     #[tactic(auto, unfolding(crate::specs::Range::fits, crate::specs::Read::register))]
@@ -421,88 +398,90 @@ impl Mmc3 {
         ensures { result ≡ fits mode self }
     {
         let r = self.regs;
-        let ram = self.ram;
         let modes = (self.select < 8) & (self.prgmode < 2) & (self.chrmode < 2);
         let banks = (r[0] % 2 == 0) & (r[1] % 2 == 0) & (r[6] < 64) & (r[7] < 64);
-        modes & banks & line_fits(mode, self.line) & ram.fits(mode)
+        modes & banks & line_fits(mode, self.line) & self.ram.fits(mode)
     }
 
     #[tactic(auto, unfolding(crate::specs::Read::register))]
     fn register(self, k: u8) -> u8
         ensures { result ≡ register self k }
     {
-        let regs = self.regs;
-        let i = k as usize;
-        if i < 8 { regs[i] } else { 0 }
+        self.regs.get(k as usize).copied().unwrap_or(0)
     }
 
     // A number counted in 1 KB banks.
+    #[tactic(auto, unfolding(crate::specs::Read::chr_bank, crate::specs::Read::chosen))]
     fn chr_bank(self, slot: u16) -> Bank1K
         ensures { result.0 ≡ chr_bank self slot }
     {
-        let choice = choice(self.chrmode, slot);
-        Bank1K((self.register(choice / 2) as u32) + ((choice % 2) as u32))
+        Bank1K::new(match choice_at(self.chrmode, slot) {
+            R(n) => self.register(n) as u32,
+            After(n) => (self.register(n) as u32) + 1,
+        })
     }
 
     // A number counted in 8 KB banks.
+    #[tactic(auto, unfolding(crate::specs::Read::prg_bank, crate::specs::Read::register))]
     fn prg_bank(self, cart: Cartridge, address: u16) -> Bank8K
         ensures { result.0 ≡ prg_bank self cart address }
     {
-        let regs = self.regs;
         match address {
             0x0000..=0x9fff => {
                 if self.prgmode == 0 {
-                    Bank8K(regs[6] as u32)
+                    Bank8K::new(self.regs[6] as u32)
                 } else {
                     last_but_one(cart)
                 }
             }
-            0xa000..=0xbfff => Bank8K(regs[7] as u32),
+            0xa000..=0xbfff => Bank8K::new(self.regs[7] as u32),
             0xc000..=0xdfff => {
                 if self.prgmode == 0 {
                     last_but_one(cart)
                 } else {
-                    Bank8K(regs[6] as u32)
+                    Bank8K::new(self.regs[6] as u32)
                 }
             }
             _ => last_bank(cart),
         }
     }
 
+    #[tactic(auto, unfolding(places::specs::Windows::lands_in))]
     fn read_chr(self, cart: Cartridge, address: u16) -> Landing
         ensures { result ≡ lands_in cart (Chr1K (chr_bank self (address / 1024))) address }
     {
-        places::chr_1k(cart, self.chr_bank(address / 1024), address)
+        places::chr_bank(cart, self.chr_bank(address / 1024), address)
     }
 
+    #[tactic(auto, unfolding(places::specs::Windows::lands_in))]
     fn read_prg(self, cart: Cartridge, address: u16) -> Landing
         ensures { result ≡ lands_in cart (Prg8K (prg_bank self cart address)) address }
     {
-        places::prg_8k(cart, self.prg_bank(cart, address), address)
+        places::prg_bank(cart, self.prg_bank(cart, address), address)
     }
 
+    #[tactic(auto, unfolding(places::specs::Windows::lands_in, crate::specs::Read::read_window, places::specs::Windows::in_windows))]
     pub fn read_landing(self, cart: Cartridge, address: u16) -> Landing
         ensures { result ≡ lands_in cart (read_window self cart address) address }
     {
-        let ram = self.ram;
         match address {
             0x0000..=0x1fff => self.read_chr(cart, address),
-            0x6000..=0x7fff => ram.read_landing(cart, address),
+            0x6000..=0x7fff => self.ram.read_landing(cart, address),
             0x8000..=0xffff => self.read_prg(cart, address),
-            _ => Landing::At(Place::Nowhere),
+            _ => Ok(Place::Nowhere),
         }
     }
 
     // The Rust panics at an acknowledging write while an interrupt is due; else no byte lands.
+    #[tactic(auto, unfolding(places::specs::Windows::lands_in, crate::specs::Read::acknowledged))]
     fn acknowledged(self, cart: Cartridge, address: u16) -> Landing
         ensures { result ≡ lands_in cart (acknowledged self address) address }
     {
-        let irq = self.irq;
-        let pending = irq.is_pending() & (0xe000 <= address) & (address % 2 == 0);
+        let pending = self.irq.is_pending() & (0xe000 <= address) & (address % 2 == 0);
         if pending {
-            Landing::Refused(Refusal::IrqPending)
+            Err(Refusal::IrqPending)
         } else {
-            Landing::At(Place::Nowhere)
+            Ok(Place::Nowhere)
         }
     }
 
@@ -517,53 +496,56 @@ impl Mmc3 {
     pub fn write_landing(self, cart: Cartridge, address: u16) -> Landing
         ensures { result ≡ lands_in cart (write_window self cart address) address }
     {
-        let mode = cart.mode;
-        let ram = self.ram;
         match address {
-            0x0000..=0x1fff => match mode {
-                Mode::House => Landing::At(Place::Nowhere),
+            0x0000..=0x1fff => match cart.mode {
+                Mode::House => Ok(Place::Nowhere),
                 Mode::Board => self.board_write_chr(cart, address),
             },
-            0x6000..=0x7fff => ram.write_landing(cart, address),
-            0x8000..=0xffff => match mode {
+            0x6000..=0x7fff => self.ram.write_landing(cart, address),
+            0x8000..=0xffff => match cart.mode {
                 Mode::House => self.acknowledged(cart, address),
-                Mode::Board => Landing::At(Place::Nowhere),
+                Mode::Board => Ok(Place::Nowhere),
             },
-            _ => Landing::At(Place::Nowhere),
+            _ => Ok(Place::Nowhere),
         }
     }
 
-    fn bank_select(mut self, value: u8) -> Mmc3
+    #[tactic(auto, unfolding(crate::specs::Write::applied))]
+    fn bank_select(self, value: u8) -> Mmc3
         ensures { (m : Mode) → result ≡ applied m (Move.Select value) self }
     {
-        self.select = value % 8;
-        self.prgmode = value / 64 % 2;
-        self.chrmode = value / 128 % 2;
-        self
+        Mmc3 {
+            select: value % 8,
+            prgmode: value / 64 % 2,
+            chrmode: value / 128 % 2,
+            ..self
+        }
     }
 
-    fn bank_data(self, value: u8) -> Mmc3
+    #[tactic(auto, unfolding(crate::specs::Write::applied))]
+    fn bank_data(mut self, value: u8) -> Mmc3
         ensures { (m : Mode) → result ≡ applied m (Move.Data value) self }
     {
-        let mut next = self;
         let kept = data_bits(self.select, value);
         let i = self.select as usize;
         if i < 8 {
-            next.regs[i] = kept;
+            self.regs[i] = kept;
         }
-        next
-    }
-
-    fn protect(mut self, mode: Mode, value: u8) -> Mmc3
-        ensures { result ≡ applied mode (Move.Protect value) self }
-    {
-        let ram = self.ram;
-        let next = ram.after(mode, value);
-        self.ram = next;
         self
     }
 
+    #[tactic(auto, unfolding(crate::specs::Write::applied))]
+    fn protect(self, mode: Mode, value: u8) -> Mmc3
+        ensures { result ≡ applied mode (Move.Protect value) self }
+    {
+        Mmc3 {
+            ram: self.ram.after(mode, value),
+            ..self
+        }
+    }
+
     // It also acknowledges: the line goes low.
+    #[tactic(auto, unfolding(crate::specs::Write::applied, crate::specs::Clock::with_irq))]
     fn disable(mut self) -> Mmc3
         ensures { (m : Mode) → result ≡ applied m Move.Disable self }
     {
@@ -572,28 +554,27 @@ impl Mmc3 {
         self
     }
 
+    #[tactic(auto, unfolding(crate::specs::Write::written))]
     pub fn write8(self, mode: Mode, value: u8, address: u16) -> Wrote
         ensures { result ≡ written mode self value address }
     {
         let made = move_of(value, address);
-        Wrote {
-            mmc3: made.applied(mode, self),
-            mirrors: made.mirrors(),
+        Outcome {
+            left: made.applied(mode, self),
+            answer: made.mirrors(),
         }
     }
 
+    #[tactic(auto, unfolding(crate::specs::Clock::clocked, crate::specs::Clock::with_irq))]
     pub fn clock(mut self, mode: Mode) -> Ticked
         ensures { result ≡ clocked mode self }
     {
-        let irq = self.irq;
-        let c = irq.clock(mode);
-        let next = c.irq;
-        let level = line_after(mode, self.line, c.answer);
-        self.irq = next;
-        self.line = level;
-        Ticked {
-            mmc3: self,
-            answer: clock_answer(mode, level, c.answer),
+        let unit = self.irq.clock(mode);
+        self.irq = unit.left;
+        self.line = line_after(mode, self.line, unit.answer);
+        Outcome {
+            left: self,
+            answer: clock_answer(mode, self.line, unit.answer),
         }
     }
 }

@@ -10,22 +10,22 @@ use cartridge::Cartridge;
 use common::Mode;
 use places::Landing;
 
+#[tactic(auto, unfolding(crate::specs::Nrom::read_window, places::specs::Windows::lands_in))]
 pub fn read_landing(cart: Cartridge, address: u16) -> Landing
     ensures { result ≡ lands_in cart (read_window cart address) address }
 {
     match address {
-        0x0000..=0x1fff => places::chr_8k(cart, Bank8K(0), address),
+        0x0000..=0x1fff => places::chr_bank(cart, Bank8K::new(0), address),
         _ => places::fixed_prg(cart, address),
     }
 }
 
-#[tactic(auto, unfolding(crate::specs::Nrom::write_window_in))]
+#[tactic(auto, unfolding(crate::specs::Nrom::write_window_in, places::specs::Windows::lands_in))]
 pub fn write_landing(cart: Cartridge, address: u16) -> Landing
     ensures { result ≡ lands_in cart (write_window cart address) address }
 {
-    let mode = cart.mode;
-    match mode {
+    match cart.mode {
         Mode::House => places::house_chr_ram(cart, address),
-        Mode::Board => places::board_chr_ram(cart, Bank8K(0), address),
+        Mode::Board => places::board_chr_ram(cart, Bank8K::new(0), address),
     }
 }

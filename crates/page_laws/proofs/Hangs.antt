@@ -4,6 +4,7 @@ use mathlib.Core.Path.{◌≡◌, refl, ◌∙◌, ap}
 use mathlib.Core.Bool.{true, false, cond}
 use native.Mathlib.Omega.{arith}
 use borrow.Author.Tests.{eqb-true}
+use Rattle.std.proofs.lemmas.Bool.Decides.{nat_tests}
 use Rattle.common.specs.Common.{KB1}
 use Rattle.common.specs.declared.Mode.{Mode}
 use Rattle.common.specs.declared.Mode.TheVariants.{House, Board as OnBoard}
@@ -32,7 +33,7 @@ use Rattle.page_laws.proofs.Banks.{mmc1_chr, mmc1_prg, mmc3_chr, mmc3_prg, mmc3_
 windows_alike : (a : ℕ) {ppu ram rom ppu' ram' rom' : Window} → (a < 0x2000 → ppu ≡ ppu') → (0x6000 ≤ a → a < 0x8000 → ram ≡ ram') → (0x8000 ≤ a → rom ≡ rom')
     → in_windows ppu ram rom a ≡ in_windows ppu' ram' rom' a
 unfolding in_windows
-windows_alike a f h g = pick a 0x2000 f (λ m. pick a 0x6000 (λ l. refl) (λ m. pick a 0x8000 (h m) g))
+windows_alike a f h g = grind (arith, nat_tests)
 
 -- the window at an address
 module _ (r s : Registers) (c : Cartridge) (a : ℕ) where

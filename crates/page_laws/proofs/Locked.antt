@@ -3,7 +3,8 @@ use Prim.Native.Nat.{ℕ, ◌+◌, ◌*◌, ◌%◌, ◌≤◌, ◌<◌}
 use mathlib.Core.Path.{◌≡◌, refl, ap, ◌∙◌}
 use mathlib.Core.Bool.{Bool, true, false, cond, not, ◌&&◌}
 use native.Mathlib.Omega.{arith}
-use borrow.Author.Tests.{lt-ltb, le-ltb, lt-leb}
+use borrow.Author.Tests.{lt-leb}
+use Rattle.std.proofs.lemmas.Bool.Decides.{nat_tests}
 use Rattle.common.specs.Common.{KB1, KB8}
 use Rattle.cartridge.specs.declared.Cartridge.{Cartridge}
 use Rattle.cartridge.specs.declared.MapperType.{MapperType}
@@ -21,7 +22,7 @@ use Rattle.page_laws.specs.Locked.{ram_page, is_read, is_written}
 -- the middle of three windows
 in_ram : (a : ℕ) (ppu ram rom : Window) → 0x6000 ≤ a → a < 0x8000 → in_windows ppu ram rom a ≡ ram
 unfolding in_windows
-in_ram a ppu ram rom g l = rw (le-ltb a 0x2000 (omega arith), le-ltb a 0x6000 g, lt-ltb a 0x8000 l) refl
+in_ram a ppu ram rom g l = grind (arith, nat_tests)
 
 module _ (c : Cartridge) (a : ℕ) where
   -- PRG RAM, if a mark opens it and there is one
@@ -44,21 +45,20 @@ module _ (b : Board) (e : b.cart.mapper ≡ Mmc3) (p : ℕ) (g : 24 ≤ p) (l : 
   abbrev c : Cartridge
   c = b.cart
 
-  -- what such a page shows for reads
+  -- what such a page shows, where a mark opens it
+  shows : (on : MapperType → Window) (ppu rom : Window) (isOpen : Bool) → on Mmc3 ≡ in_windows ppu (cond isOpen (prg_ram_of c) Empty) rom (p * KB1)
+      → on c.mapper ≡ cond (isOpen && c.prgram) PrgRam Empty
+  shows on ppu rom isOpen s = ap on e ∙ s ∙ in_ram (p * KB1) ppu (cond isOpen (prg_ram_of c) Empty) rom (omega arith) (omega arith) ∙ opened c (p * KB1) isOpen
+
+  -- for reads
   shown : read_window_on c.mapper b.registers c (p * KB1) ≡ cond (is_read b) PrgRam Empty
   unfolding read_window_on mmc3.read_window ram_read
-  shown =
-      ap (λ (k : MapperType). read_window_on k b.registers c (p * KB1)) e
-      ∙ in_ram (p * KB1) _ (ram_read b.registers.mmc3.ram c) _ (omega arith) (omega arith)
-      ∙ opened c (p * KB1) b.registers.mmc3.ram.enabled
+  shown = shows (λ (k : MapperType). read_window_on k b.registers c (p * KB1)) _ _ b.registers.mmc3.ram.enabled refl
 
   -- and for writes, in either mode
   taken : write_window_on c.mapper b.registers c (p * KB1) ≡ cond (is_written b) PrgRam Empty
   unfolding write_window_on mmc3.write_window_in ram_written
-  taken =
-      ap (λ (k : MapperType). write_window_on k b.registers c (p * KB1)) e
-      ∙ in_ram (p * KB1) _ (ram_written b.registers.mmc3.ram c) _ (omega arith) (omega arith)
-      ∙ opened c (p * KB1) (b.registers.mmc3.ram.enabled && not b.registers.mmc3.ram.denied)
+  taken = shows (λ (k : MapperType). write_window_on k b.registers c (p * KB1)) _ _ (b.registers.mmc3.ram.enabled && not b.registers.mmc3.ram.denied) refl
 
   pub ram_page_read : read_page b p ≡ ram_page (is_read b) p
   unfolding read_page read_landing

@@ -4,17 +4,14 @@ use mathlib.Core.Path.{◌≡◌}
 use mathlib.Core.Bool.{true}
 use mathlib.Core.List.{List}
 use native.Mathlib.Omega.{arith}
-use lib.Dec.{eqb}
 use lib.ListN.{length}
-use borrow.Author.Tests.{eqb-true}
-use Rattle.rules.proofs.Bools.{and_left, and_right, split_3}
+use Rattle.std.proofs.lemmas.Bool.Decides.{nat_tests}
 use Rattle.common.specs.Common.{KB8}
 use Rattle.common.specs.Answers.{refusal_number}
 use Rattle.common.specs.declared.Refusal.{Refusal}
-use Rattle.cartridge.specs.Load.{could_load, rams_fit}
+use Rattle.cartridge.specs.Load.{rams_fit}
 use Rattle.cartridge.proofs.Range.{fields, counts_end_small}
-use Rattle.boards.specs.Registers.{fits}
-use Rattle.boards.specs.Range.{mirroring_fits, in_range, is_loaded}
+use Rattle.boards.specs.Range.{in_range, is_loaded}
 use Rattle.boards.specs.declared.Board.{Board}
 use Rattle.pages.specs.Pages.{refused_page}
 use Rattle.pages.proofs.Refusals.{refusals_few}
@@ -35,7 +32,7 @@ counts : (b : Board) → in_range b ≡ true → (b.cart.prg < 4096) × (b.cart.
 unfolding in_range
 counts b h =
     let c = b.cart in
-    let f = fields c (split_3 (could_load c) (fits c.mapper c.mode b.registers) (mirroring_fits b) h).0 in
+    let f = fields c (grind arith) in
     let e = counts_end_small c.mode c.nes2 in
     (omega (arith, e, f.prg_small), omega (arith, e, f.chr_small))
 
@@ -51,14 +48,15 @@ pub record Served (b : Board) (image prg chr : List ℕ) : Type 0 where
 pub served : (b : Board) (image prg chr : List ℕ) → is_loaded b (length image) ≡ true → rams_fit (length prg) (length chr) ≡ true → Served b image prg chr
 unfolding is_loaded rams_fit
 served b image prg chr loaded rams =
-    let h = and_left (in_range b) (eqb (length image) b.cart.length) loaded in
+    let h : in_range b ≡ true = grind (arith, nat_tests) in
+    let n = counts b h in
     record {
       is_in_range = h;
-      prg_blocks = (counts b h).0;
-      chr_blocks = (counts b h).1;
-      image_length = eqb-true (length image) b.cart.length (and_right (in_range b) (eqb (length image) b.cart.length) loaded);
-      prg_length = eqb-true (length prg) 8192 (and_left (eqb (length prg) 8192) (eqb (length chr) 8192) rams);
-      chr_length = eqb-true (length chr) 8192 (and_right (eqb (length prg) 8192) (eqb (length chr) 8192) rams);
+      prg_blocks = n.0;
+      chr_blocks = n.1;
+      image_length = grind (arith, nat_tests);
+      prg_length = grind (arith, nat_tests);
+      chr_length = grind (arith, nat_tests);
     }
 
 pub refused_number : (why : Refusal) → Is (refused_page why) 4 (refusal_number why)

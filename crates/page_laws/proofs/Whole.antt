@@ -1,16 +1,16 @@
 -- Every page of 1 KB lies whole where its first byte lies: no bound of a window falls inside a page, and no bank ends inside one. Assumes nothing.
+use Rattle.std.specs.Prelude.{Option, Some, None, Ok}
 use Prim.Native.Nat.{ℕ, ◌+◌, ◌*◌, ◌/◌, ◌%◌, ◌<◌}
 use mathlib.Core.Path.{◌≡◌, refl, ◌∙◌, ap}
 use mathlib.Core.Bool.{Bool, true, false}
 use native.Mathlib.Omega.{arith}
 use lib.Dec.{ltb}
-use borrow.Author.Tests.{ltb-true, ltb-false, lt-ltb, le-ltb}
+use borrow.Author.Tests.{lt-ltb}
+use Rattle.std.proofs.lemmas.Bool.Decides.{nat_tests}
 use Rattle.common.specs.Common.{KB1, KB4, KB8, KB16}
 use Rattle.common.specs.declared.Mode.{Mode}
 use Rattle.common.specs.declared.Mode.TheVariants.{House, Board as OnBoard}
 use Rattle.banks.specs.Banks.{bank_start}
-use Rattle.banks.specs.declared.Start.{Start}
-use Rattle.banks.specs.declared.Start.TheVariants.{At as StartsAt, PastEnd}
 use Rattle.cartridge.specs.Load.{prg_total, chr_total, has_chr_ram}
 use Rattle.cartridge.specs.Mappers.{is_mapper}
 use Rattle.cartridge.specs.declared.Cartridge.{Cartridge}
@@ -20,7 +20,6 @@ use Rattle.places.specs.Places.{prg_at, chr_at, in_prg, in_chr}
 use Rattle.places.specs.Windows.{Window, lands_in, fixed_block, fixed_prg, house_chr_ram, board_chr_ram, in_windows}
 use Rattle.places.specs.Windows.Window.{Prg16K, Prg8K, Chr8K, Chr4K, Chr1K, PrgRam, ChrRam, Empty, Refused}
 use Rattle.places.specs.declared.Place.TheVariants as place
-use Rattle.places.specs.declared.Landing.TheVariants.{At}
 use Rattle.nrom.specs.Nrom as nrom
 use Rattle.uxrom.specs.Uxrom as uxrom
 use Rattle.cnrom.specs.Cnrom as cnrom
@@ -40,29 +39,25 @@ module _ (c : Cartridge) (size n i o : ℕ) where
   unfolding in_prg prg_at shifted moved_on
   prg_on = go (bank_start c.mode n size (prg_total c))
     where
-      go : (s : Start) → prg_at s (i + o) ≡ shifted (prg_at s i) o
-      go (StartsAt s) = ap (λ (k : ℕ). At (place.Prg k)) (omega arith)
-      go PastEnd = refl
+      go : (s : Option ℕ) → prg_at s (i + o) ≡ shifted (prg_at s i) o
+      go (Some s) = ap (λ (k : ℕ). Ok (place.Prg k)) (omega arith)
+      go None = refl
 
   chr_on : in_chr c size n (i + o) ≡ shifted (in_chr c size n i) o
   unfolding in_chr chr_at shifted moved_on
   chr_on = go (has_chr_ram c) (bank_start c.mode n size (chr_total c))
     where
-      go : (ram : Bool) (s : Start) → chr_at ram s (i + o) ≡ shifted (chr_at ram s i) o
-      go true (StartsAt s) = ap (λ (k : ℕ). At (place.ChrRam k)) (omega arith)
-      go false (StartsAt s) = ap (λ (k : ℕ). At (place.Chr k)) (omega arith)
-      go true PastEnd = refl
-      go false PastEnd = refl
+      go : (ram : Bool) (s : Option ℕ) → chr_at ram s (i + o) ≡ shifted (chr_at ram s i) o
+      go true (Some s) = ap (λ (k : ℕ). Ok (place.ChrRam k)) (omega arith)
+      go false (Some s) = ap (λ (k : ℕ). Ok (place.Chr k)) (omega arith)
+      go true None = refl
+      go false None = refl
 
 -- byte o of page p
 module _ (p o : ℕ) (h : o < KB1) where
   -- no bound lies inside a page
   side : (k : ℕ) → ltb (p * KB1 + o) (k * KB1) ≡ ltb (p * KB1) (k * KB1)
-  side k = go (ltb (p * KB1) (k * KB1)) refl
-    where
-      go : (t : Bool) → ltb (p * KB1) (k * KB1) ≡ t → ltb (p * KB1 + o) (k * KB1) ≡ t
-      go true e = let l = ltb-true (p * KB1) (k * KB1) e in lt-ltb (p * KB1 + o) (k * KB1) (omega arith)
-      go false e = let l = ltb-false (p * KB1) (k * KB1) e in le-ltb (p * KB1 + o) (k * KB1) (omega arith)
+  side k = grind (arith, nat_tests)
 
   -- so that a page shows one window
   abbrev Stays : (ℕ → Window) → Type 0
@@ -80,8 +75,8 @@ module _ (p o : ℕ) (h : o < KB1) where
     lands_on (Chr8K n) = ap (in_chr c KB8 n) (omega arith) ∙ chr_on c KB8 n (p * KB1 % KB8) o
     lands_on (Chr4K n) = ap (in_chr c KB4 n) (omega arith) ∙ chr_on c KB4 n (p * KB1 % KB4) o
     lands_on (Chr1K n) = ap (in_chr c KB1 n) (omega arith) ∙ chr_on c KB1 n (p * KB1 % KB1) o
-    lands_on PrgRam = ap (λ (k : ℕ). At (place.PrgRam k)) (omega arith)
-    lands_on ChrRam = ap (λ (k : ℕ). At (place.ChrRam k)) (omega arith)
+    lands_on PrgRam = ap (λ (k : ℕ). Ok (place.PrgRam k)) (omega arith)
+    lands_on ChrRam = ap (λ (k : ℕ). Ok (place.ChrRam k)) (omega arith)
     lands_on Empty = refl
     lands_on (Refused why) = refl
 

@@ -1,15 +1,14 @@
 -- What a caller does by the number of a page, where it makes no call.
-use Rattle.std.specs.Prelude.{ℕ, ◌+◌, ◌/◌, ◌%◌, ◌<◌, ◌≡◌, cond, List, eqb, length, set}
+use Rattle.std.specs.Prelude.{ℕ, ◌+◌, ◌/◌, ◌%◌, ◌<◌, ◌≡◌, cond, List, eqb, length, set, None, Ok, Err}
 use Rattle.common.specs.Common.{KB1}
 use Rattle.common.specs.declared.Refusal.{Refusal}
 use Rattle.memory.specs.Memory.{byte}
-use Rattle.places.specs.declared.Landing.{Landing}
+use Rattle.places.specs.Places.{Landing}
 use Rattle.boards.specs.Numbers.{refused_by}
 use Rattle.boards.specs.Write.{Writes}
 use Rattle.boards.specs.declared.Board.{Board}
-use Rattle.boards.specs.declared.Written.{Written}
-use Rattle.boards.specs.declared.WriteAnswer.{WriteAnswer}
-use Rattle.boards.specs.declared.WriteAnswer.TheVariants.{Quiet, Refused}
+use Rattle.boards.specs.Write.{Written}
+use Rattle.boards.specs.Write.{WriteAnswer}
 use Rattle.pages.specs.Pages.{refused_page}
 
 -- BIEKKARUL_PAGE_KIND
@@ -44,11 +43,11 @@ pub record Inside (n o : ℕ) (image prg chr : List ℕ) : Type 0 where
 
 -- the board as it was, and an answer
 abbrev pub stays : Board → WriteAnswer → Written
-stays b says = record { board = b; answer = says }
+stays b says = record { left = b; answer = says }
 
 -- what a write of v to address a that lands in l owes, by its page's number. Of kind 5, where the call is to be made, nothing is said
 pub record WritesBy (n : ℕ) (b : Board) (l : Landing) (prg chr : List ℕ) (a v : ℕ) : Type 0 where
   -- kinds 1, 2 and 3: nothing moves, the answer is quiet, and both RAMs are as the caller's own store leaves them
-  pub stores : kind n < 4 → Writes b l prg chr a v (stays b Quiet) (stores_prg n (a % KB1) v prg) (stores_chr n (a % KB1) v chr)
+  pub stores : kind n < 4 → Writes b l prg chr a v (stays b (Ok None)) (stores_prg n (a % KB1) v prg) (stores_chr n (a % KB1) v chr)
   -- kind 4: it is refused by the number in the offset, and changes nothing
-  pub refuses : kind n ≡ 4 → (why : Refusal) × (n ≡ refused_page why) × Writes b l prg chr a v (stays b (Refused why)) prg chr
+  pub refuses : kind n ≡ 4 → (why : Refusal) × (n ≡ refused_page why) × Writes b l prg chr a v (stays b (Err why)) prg chr

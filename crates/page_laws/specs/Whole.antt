@@ -1,9 +1,8 @@
 -- What follows the first byte of a page.
-use Rattle.std.specs.Prelude.{ℕ, ◌+◌}
+use Rattle.std.specs.Prelude.{ℕ, ◌+◌, Ok, Err}
 use Rattle.places.specs.declared.Place.{Place}
 use Rattle.places.specs.declared.Place.TheVariants.{Prg, Chr, PrgRam, ChrRam, Nowhere}
-use Rattle.places.specs.declared.Landing.{Landing}
-use Rattle.places.specs.declared.Landing.TheVariants.{At, Refused}
+use Rattle.places.specs.Places.{Landing}
 
 -- the place that many bytes on
 unfoldable pub moved_on : Place → ℕ → Place
@@ -15,5 +14,5 @@ moved_on Nowhere o = Nowhere
 
 -- the landing that many bytes on; a refusal stays one
 unfoldable pub shifted : Landing → ℕ → Landing
-shifted (At p) o = At (moved_on p o)
-shifted (Refused why) o = Refused why
+shifted (Ok p) o = Ok (moved_on p o)
+shifted (Err why) o = Err why

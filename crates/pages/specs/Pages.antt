@@ -1,5 +1,5 @@
 -- The address space in 64 pages of 1 KB: where each is read from, and where a write to it goes. docs/ABI.md, "Pages".
-use Rattle.std.specs.Prelude.{ℕ, zero, suc, ◌+◌, ◌*◌, ◌%◌, ◌≡◌, Bool, cond, not, ◌&&◌, List, [], ◌∷◌, leb, length}
+use Rattle.std.specs.Prelude.{ℕ, zero, suc, ◌+◌, ◌*◌, ◌%◌, ◌≡◌, Bool, cond, not, ◌&&◌, List, [], ◌∷◌, leb, length, Ok, Err, Result}
 use Rattle.common.specs.Common.{KB1, KB8}
 use Rattle.common.specs.Answers.{refusal_number, no}
 use Rattle.common.specs.declared.Refusal.{Refusal}
@@ -10,14 +10,11 @@ use Rattle.cartridge.specs.declared.MapperType.{MapperType}
 use Rattle.cartridge.specs.declared.MapperType.TheVariants.{Nrom}
 use Rattle.places.specs.declared.Place.{Place}
 use Rattle.places.specs.declared.Place.TheVariants.{Prg, Chr, PrgRam, ChrRam, Nowhere}
-use Rattle.places.specs.declared.Landing.{Landing}
-use Rattle.places.specs.declared.Landing.TheVariants.{At, Refused as NotLanded}
+use Rattle.places.specs.Places.{Landing}
 use Rattle.boards.specs.Range.{in_range}
 use Rattle.boards.specs.Read.{read_landing}
 use Rattle.boards.specs.Write.{write_landing}
 use Rattle.boards.specs.declared.Board.{Board}
-use Rattle.pages.specs.declared.PagesAnswer.{PagesAnswer}
-use Rattle.pages.specs.declared.PagesAnswer.TheVariants.{Told, Refused}
 
 -- a page is one number: its kind, 2^28 times, and an offset. Kind 0 is the image, 1 PRG RAM, 2 CHR RAM; of kind 3 a read answers 0. On a board in range no remainder changes an offset (`page_laws`)
 unfoldable pub place_read : Cartridge → Place → ℕ
@@ -45,13 +42,13 @@ call_page = 0x50000000
 
 -- where a read that lands there comes from
 unfoldable pub read_from : Cartridge → Landing → ℕ
-read_from c (At p) = place_read c p
-read_from c (NotLanded why) = refused_page why
+read_from c (Ok p) = place_read c p
+read_from c (Err why) = refused_page why
 
 -- where a write that lands there goes
 unfoldable pub written_to : Landing → ℕ
-written_to (At p) = place_written p
-written_to (NotLanded why) = refused_page why
+written_to (Ok p) = place_written p
+written_to (Err why) = refused_page why
 
 -- registers are written at 8000-FFFF, on every board but NROM
 unfoldable pub has_registers : MapperType → ℕ → Bool
@@ -74,9 +71,13 @@ numbers f p (suc n) = f p ∷ numbers f (suc p) n
 unfoldable pub is_told : Bool → ℕ → ℕ → ℕ → Bool
 is_told state first n m = state && leb (first + n) 64 && leb (first + m) 64
 
+-- what a caller that asks for pages is answered: they are told, or the refusal
+abbrev pub PagesAnswer : Type 0
+PagesAnswer = Result Unit Refusal
+
 -- the answer of the pages: told, or 10
 unfoldable pub told : Bool → PagesAnswer
-told t = cond t Told (Refused (no 10))
+told t = cond t (Ok tt) (Err (no 10))
 
 -- what is owed where the state has been judged: the answer, and the numbers of both, as many as there is room for
 pub record PagesIf (state : Bool) (b : Board) (first : ℕ) (reads writes : List ℕ) (r : PagesAnswer) (reads' writes' : List ℕ) : Type 0 where

@@ -1,28 +1,31 @@
 -- Where a byte of a bank lies, and the byte that is read or stored there.
-use Rattle.std.specs.Prelude.{ℕ, ◌+◌, ◌≡◌, Bool, cond, List, set}
+use Rattle.std.specs.Prelude.{ℕ, ◌+◌, ◌≡◌, Bool, cond, List, set, Option, Some, None, Result, Ok, Err}
 use Rattle.common.specs.Answers.{no}
+use Rattle.common.specs.declared.Refusal.{Refusal}
 use Rattle.memory.specs.Memory.{byte}
 use Rattle.banks.specs.Banks.{bank_start}
-use Rattle.banks.specs.declared.Start.{Start}
-use Rattle.banks.specs.declared.Start.TheVariants.{At as StartsAt, PastEnd}
 use Rattle.cartridge.specs.Load.{prg_total, chr_total, has_chr_ram, prg_rom, chr_rom}
 use Rattle.cartridge.specs.declared.Cartridge.{Cartridge}
 use Rattle.places.specs.declared.Place.{Place}
 use Rattle.places.specs.declared.Place.TheVariants.{Prg, Chr, PrgRam, ChrRam, Nowhere}
-use Rattle.places.specs.declared.Landing.{Landing}
-use Rattle.places.specs.declared.Landing.TheVariants.{At, Refused}
-use Rattle.places.specs.declared.ReadAnswer.{ReadAnswer}
-use Rattle.places.specs.declared.ReadAnswer.TheVariants.{Byte, Refused as NoByte}
+
+-- where an address lands: at a place, or the read or write is refused
+abbrev pub Landing : Type 0
+Landing = Result Place Refusal
+
+-- what a read answers: a byte, or its refusal
+abbrev pub ReadAnswer : Type 0
+ReadAnswer = Result ℕ Refusal
 
 -- refusal 11 where the bank is past the data; else the byte `at` of the PRG bank
-unfoldable pub prg_at : Start → ℕ → Landing
-prg_at (StartsAt s) at = At (Prg (s + at))
-prg_at PastEnd at = Refused (no 11)
+unfoldable pub prg_at : Option ℕ → ℕ → Landing
+prg_at (Some s) at = Ok (Prg (s + at))
+prg_at None at = Err (no 11)
 
 -- refusal 11 where the bank is past the data; else the byte `at` of the CHR bank, in RAM or in the image
-unfoldable pub chr_at : Bool → Start → ℕ → Landing
-chr_at ram (StartsAt s) at = cond ram (At (ChrRam (s + at))) (At (Chr (s + at)))
-chr_at ram PastEnd at = Refused (no 11)
+unfoldable pub chr_at : Bool → Option ℕ → ℕ → Landing
+chr_at ram (Some s) at = cond ram (Ok (ChrRam (s + at))) (Ok (Chr (s + at)))
+chr_at ram None at = Err (no 11)
 
 -- the byte `at` of PRG bank n, counted in banks of a size
 unfoldable pub in_prg : Cartridge → ℕ → ℕ → ℕ → Landing
@@ -42,31 +45,31 @@ byte_of c Nowhere image prg chr = 0
 
 -- the byte where an address lands
 unfoldable pub byte_at : Cartridge → Landing → List ℕ → List ℕ → List ℕ → ℕ
-byte_at c (At p) image prg chr = byte_of c p image prg chr
-byte_at c (Refused why) image prg chr = 0
+byte_at c (Ok p) image prg chr = byte_of c p image prg chr
+byte_at c (Err why) image prg chr = 0
 
 -- "A refusal yields its number only"; else a read answers the byte
 unfoldable pub answer_at : Landing → ℕ → ReadAnswer
-answer_at (At p) b = Byte b
-answer_at (Refused why) b = NoByte why
+answer_at (Ok p) b = Ok b
+answer_at (Err why) b = Err why
 
 -- PRG RAM after a byte is stored where an address lands
 unfoldable pub stored_prg : Landing → ℕ → List ℕ → List ℕ
-stored_prg (At (Prg i)) v prg = prg
-stored_prg (At (Chr i)) v prg = prg
-stored_prg (At (PrgRam i)) v prg = set prg i v
-stored_prg (At (ChrRam i)) v prg = prg
-stored_prg (At Nowhere) v prg = prg
-stored_prg (Refused why) v prg = prg
+stored_prg (Ok (Prg i)) v prg = prg
+stored_prg (Ok (Chr i)) v prg = prg
+stored_prg (Ok (PrgRam i)) v prg = set prg i v
+stored_prg (Ok (ChrRam i)) v prg = prg
+stored_prg (Ok Nowhere) v prg = prg
+stored_prg (Err why) v prg = prg
 
 -- CHR RAM after a byte is stored where an address lands
 unfoldable pub stored_chr : Landing → ℕ → List ℕ → List ℕ
-stored_chr (At (Prg i)) v chr = chr
-stored_chr (At (Chr i)) v chr = chr
-stored_chr (At (PrgRam i)) v chr = chr
-stored_chr (At (ChrRam i)) v chr = set chr i v
-stored_chr (At Nowhere) v chr = chr
-stored_chr (Refused why) v chr = chr
+stored_chr (Ok (Prg i)) v chr = chr
+stored_chr (Ok (Chr i)) v chr = chr
+stored_chr (Ok (PrgRam i)) v chr = chr
+stored_chr (Ok (ChrRam i)) v chr = set chr i v
+stored_chr (Ok Nowhere) v chr = chr
+stored_chr (Err why) v chr = chr
 
 -- what a store owes its caller: both RAMs
 pub record StoreOwes (l : Landing) (v : ℕ) (prg chr prg' chr' : List ℕ) : Type 0 where

@@ -1,13 +1,12 @@
 -- What a board shows at an address, the windows that boards share, and where an address lands in one.
-use Rattle.std.specs.Prelude.{ℕ, ◌%◌, cond, ltb, eqb}
+use Rattle.std.specs.Prelude.{ℕ, ◌%◌, cond, ltb, eqb, Ok, Err}
 use Rattle.common.specs.Common.{KB1, KB4, KB8, KB16}
 use Rattle.common.specs.declared.Refusal.{Refusal}
 use Rattle.common.specs.Answers.{no}
 use Rattle.cartridge.specs.Load.{has_chr_ram}
 use Rattle.cartridge.specs.declared.Cartridge.{Cartridge}
 use Rattle.places.specs.Places.{in_prg, in_chr}
-use Rattle.places.specs.declared.Landing.{Landing}
-use Rattle.places.specs.declared.Landing.TheVariants.{At, Refused as NotLanded}
+use Rattle.places.specs.Places.{Landing}
 use Rattle.places.specs.declared.Place.TheVariants.{PrgRam as InPrgRam, ChrRam as InChrRam, Nowhere}
 
 -- a bank by its number, counted in banks of its size; a RAM; nothing; or a refusal
@@ -29,10 +28,10 @@ lands_in c (Prg8K n) a = in_prg c KB8 n (a % KB8)
 lands_in c (Chr8K n) a = in_chr c KB8 n (a % KB8)
 lands_in c (Chr4K n) a = in_chr c KB4 n (a % KB4)
 lands_in c (Chr1K n) a = in_chr c KB1 n (a % KB1)
-lands_in c PrgRam a = At (InPrgRam (a % KB8))
-lands_in c ChrRam a = At (InChrRam (a % KB8))
-lands_in c Empty a = At Nowhere
-lands_in c (Refused why) a = NotLanded why
+lands_in c PrgRam a = Ok (InPrgRam (a % KB8))
+lands_in c ChrRam a = Ok (InChrRam (a % KB8))
+lands_in c Empty a = Ok Nowhere
+lands_in c (Refused why) a = Err why
 
 -- "8000-BFFF first PRG block; C000-FFFF second, or first again if only one"
 unfoldable pub fixed_block : Cartridge → ℕ → ℕ

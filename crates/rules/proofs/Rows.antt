@@ -8,7 +8,7 @@ use native.Mathlib.Omega.{arith}
 use borrow.Author.Tests.{ltb-true}
 use lib.Dec.{ltb, eqb}
 use mir.Val.{bool_byte}
-use Rattle.rules.proofs.Bools.{and_left, and_right}
+use Rattle.std.proofs.lemmas.Bool.{and_parts}
 use Rattle.rules.specs.Rows.{word, digits, digit, Fits, below_too, below}
 
 pub there : (ss ds : List ℕ) → Fits ss ds → digits ss (word ss ds) ≡ ds
@@ -44,7 +44,7 @@ both b [] (d ∷ ds) e = absurd (false≢true e)
 both b (s ∷ ss) [] e = absurd (false≢true e)
 both b (s ∷ ss) (d ∷ ds) e =
     let p = both (b && ltb d s) ss ds e in
-    (and_left b (ltb d s) p.0, (ltb-true d s (and_right b (ltb d s) p.0), p.1))
+    ((and_parts b (ltb d s) p.0).0, (ltb-true d s (and_parts b (ltb d s) p.0).1, p.1))
 
 pub tested : (ss ds : List ℕ) → below ss ds ≡ true → Fits ss ds
 tested ss ds e = (both true ss ds e).1

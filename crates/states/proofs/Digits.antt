@@ -1,25 +1,23 @@
 -- Every digit of a board in range is below its size: those of another board's registers are at their start. Assumes nothing.
 use Prim.Native.Nat.{◌<◌}
-use mathlib.Core.Path.{◌≡◌, refl, subst⁻¹}
+use mathlib.Core.Path.{◌≡◌, subst⁻¹}
 use mathlib.Core.Bool.{Bool, true}
 use mathlib.Core.List.{[], ◌∷◌}
 use native.Mathlib.Omega.{arith}
 use borrow.Author.Tests.{ltb-true, eqb-true}
 use mir.Val.{bool_byte}
 use Rattle.rules.specs.Rows.{Fits, bytes}
-use Rattle.rules.proofs.Bools.{and_left, and_right, either}
+use Rattle.rules.proofs.Bools.{either}
 use Rattle.rules.proofs.Rows.{each, mark_small}
 use Rattle.common.specs.Common.{mode_number, mode_of}
 use Rattle.common.specs.declared.Mode.{Mode}
-use Rattle.common.specs.declared.Mode.TheVariants.{House, Board as OnBoard}
 use Rattle.common.specs.declared.Mirroring.{Mirroring}
-use Rattle.common.specs.declared.Mirroring.TheVariants.{Horizontal, Vertical, SingleScreenUpper, SingleScreenLower}
 use Rattle.cartridge.specs.Load.{could_load}
 use Rattle.cartridge.specs.Mappers.{mapper_number, is_mapper, mapper_type}
 use Rattle.cartridge.specs.declared.Cartridge.{Cartridge}
 use Rattle.cartridge.proofs.Range.{fields, counts_end_small}
 use Rattle.cartridge.specs.declared.MapperType.{MapperType}
-use Rattle.cartridge.specs.declared.MapperType.TheVariants.{Nrom, Mmc1, Uxrom, Cnrom, Mmc3}
+use Rattle.cartridge.specs.declared.MapperType.TheVariants.{Mmc1, Cnrom, Mmc3}
 use Rattle.cnrom.specs.Cnrom as cnrom
 use Rattle.cnrom.specs.declared.Cnrom as cnrom-type
 use Rattle.mmc1.specs.Range as mmc1
@@ -35,45 +33,29 @@ use Rattle.states.proofs.Starts.{mmc1_unused}
 
 -- each enum is the one of its digit
 pub mode_small : (m : Mode) → mode_number m < 2
-mode_small House = omega arith
-mode_small OnBoard = omega arith
+mode_small m = grind arith
 
 pub mode_there : (m : Mode) → mode_of (mode_number m) ≡ m
 unfolding mode_of
-mode_there House = refl
-mode_there OnBoard = refl
+mode_there m = grind arith
 
 pub mapper_small : (m : MapperType) → mapper_number m < 0x100
-mapper_small Nrom = omega arith
-mapper_small Mmc1 = omega arith
-mapper_small Uxrom = omega arith
-mapper_small Cnrom = omega arith
-mapper_small Mmc3 = omega arith
+mapper_small m = grind arith
 
 pub mapper_there : (m : MapperType) → mapper_type (mapper_number m) ≡ m
 unfolding mapper_type
-mapper_there Nrom = refl
-mapper_there Mmc1 = refl
-mapper_there Uxrom = refl
-mapper_there Cnrom = refl
-mapper_there Mmc3 = refl
+mapper_there m = grind arith
 
 -- PRG RAM has two bits
 pub note_small : (t : Bool) → bool_byte t < 4
 note_small t = omega (arith, mark_small t)
 
 pub screens_small : (m : Mirroring) → mirroring_digit m < 4
-screens_small Horizontal = omega arith
-screens_small Vertical = omega arith
-screens_small SingleScreenUpper = omega arith
-screens_small SingleScreenLower = omega arith
+screens_small m = grind arith
 
 pub screens_there : (m : Mirroring) → mirroring_of (mirroring_digit m) ≡ m
 unfolding mirroring_of
-screens_there Horizontal = refl
-screens_there Vertical = refl
-screens_there SingleScreenUpper = refl
-screens_there SingleScreenLower = refl
+screens_there m = grind arith
 
 -- what follows of a part in its range and of a part at its start follows of every part that fits
 part : (A : Type 0) (k owner : MapperType) {in_range at_start : Bool} → (in_range ≡ true → A) → (at_start ≡ true → A) → part_fits k owner in_range at_start ≡ true → A
@@ -92,8 +74,8 @@ Mmc1Small m =
 mmc1_used : (m : mmc1-type.Mmc1) → mmc1.fits m ≡ true → Mmc1Small m
 unfolding mmc1.fits mmc1.serial_fits mmc1.regs_fits
 mmc1_used m h =
-    let c : m.serial.count < 5 = search (and_left, and_right, ltb-true) in
-    (omega arith, search (and_left, and_right, ltb-true))
+    let c : m.serial.count < 5 = grind (arith, ltb-true) in
+    (omega arith, grind (arith, ltb-true))
 
 mmc1_small : (k : MapperType) (m : mmc1-type.Mmc1) → part_fits k Mmc1 (mmc1.fits m) (mmc1.is_unused m) ≡ true → Mmc1Small m
 mmc1_small k m = part (Mmc1Small m) k Mmc1 (mmc1_used m) (λ e. subst⁻¹ Mmc1Small ((mmc1_unused m).0 e) (search arith))
@@ -105,14 +87,14 @@ Mmc3Small m = Fits (8 ∷ 2 ∷ 2 ∷ []) (m.select ∷ m.prgmode ∷ m.chrmode 
 mmc3_unused : (m : mmc3-type.Mmc3) → mmc3.is_start m ≡ true → Mmc3Small m
 unfolding mmc3.is_start
 mmc3_unused m h =
-    let s : m.select ≡ 0 = search (and_left, and_right, eqb-true) in
-    let p : m.prgmode ≡ 0 = search (and_left, and_right, eqb-true) in
-    let c : m.chrmode ≡ 0 = search (and_left, and_right, eqb-true) in
+    let s : m.select ≡ 0 = grind (arith, eqb-true) in
+    let p : m.prgmode ≡ 0 = grind (arith, eqb-true) in
+    let c : m.chrmode ≡ 0 = grind (arith, eqb-true) in
     search arith
 
 mmc3_small : (k : MapperType) (mode : Mode) (m : mmc3-type.Mmc3) → part_fits k Mmc3 (mmc3.fits mode m) (mmc3.is_start m) ≡ true → Mmc3Small m
 unfolding mmc3.fits
-mmc3_small k mode m = part (Mmc3Small m) k Mmc3 (λ (h : mmc3.fits mode m ≡ true). search (and_left, and_right, ltb-true)) (mmc3_unused m)
+mmc3_small k mode m = part (Mmc3Small m) k Mmc3 (λ (h : mmc3.fits mode m ≡ true). grind (arith, ltb-true)) (mmc3_unused m)
 
 -- both counts are below 4,096 where a load could leave them
 counts : (c : Cartridge) → could_load c ≡ true → (c.prg < 0x1000) × (c.chr < 0x1000)
@@ -133,10 +115,10 @@ unfolding in_range fits
 in_rows b t h =
     let k = b.cart.mapper in
     let r = b.registers in
-    let c = counts b.cart (search (and_left, and_right)) in
-    let n = cnrom_small k r.cnrom (search (and_left, and_right)) in
-    let o = mmc1_small k r.mmc1 (search (and_left, and_right)) in
-    let m = mmc3_small k b.cart.mode r.mmc3 (search (and_left, and_right)) in
+    let c = counts b.cart (grind arith) in
+    let n = cnrom_small k r.cnrom (grind arith) in
+    let o = mmc1_small k r.mmc1 (grind arith) in
+    let m = mmc3_small k b.cart.mode r.mmc3 (grind arith) in
     record {
       cart = search (arith, mode_small, mark_small, note_small, mapper_small, screens_small, c);
       banks = search (arith, n, o, t);

@@ -1,8 +1,8 @@
 -- The four parts that the code tests are what makes words a board's: a word is that of a row exactly where it has the row's digits and nothing above the
 -- last. Assumes nothing.
-use Prim.Native.Nat.{ℕ, zero, suc, ◌<◌}
+use Prim.Native.Nat.{ℕ, ◌<◌}
 use mathlib.Core.Path.{◌≡◌, refl, sym, ap, subst⁻¹, ◌∙◌}
-use mathlib.Core.Bool.{Bool, true, false, cond, not, ◌&&◌, ◌||◌, and_assoc, and_comm, and-true, or-true}
+use mathlib.Core.Bool.{Bool, true, false, cond, not, ◌&&◌, ◌||◌}
 use mathlib.Core.List.{List, [], ◌∷◌}
 use mathlib.Core.Logic.{◌↔◌}
 use native.Mathlib.Omega.{arith}
@@ -11,7 +11,9 @@ use lib.Dec.{eqb, ltb, leb}
 use mir.Val.{bool_byte}
 use Rattle.rules.specs.Rows.{bytes, digit, Fits}
 use Rattle.rules.specs.Flat.{flat_digits, flat_word}
-use Rattle.rules.proofs.Bools.{both_ways, and_left, and_right, split_3, split_4}
+use Rattle.std.proofs.lemmas.Bool.{and_parts}
+use Rattle.std.proofs.lemmas.Bool.Decides.{nat_tests}
+use Rattle.rules.proofs.Bools.{both_ways, split_3, split_4}
 use Rattle.rules.proofs.Rows.{mark_small}
 use Rattle.rules.proofs.Flat.{flat_there, flat_back, flat_small}
 use Rattle.common.specs.Common.{mode_number, mode_of}
@@ -47,52 +49,36 @@ use Rattle.states.proofs.Digits.{mapper_small, note_small}
 use Rattle.states.proofs.Starts.{uxrom_start, cnrom_start, mmc1_unused, mmc3_start}
 
 turn : (m n : ℕ) → eqb m n ≡ eqb n m
-turn m n = both_ways (eqb m n) (eqb n m) (λ h. eq-eqb n m (sym (eqb-true m n h))) (λ h. eq-eqb m n (sym (eqb-true n m h)))
-
--- by these three a conjunction's tests may stand in any order
-and_swap : (x y z : Bool) → (x && (y && z)) ≡ (y && (x && z))
-and_swap true y z = refl
-and_swap false true z = refl
-and_swap false false z = refl
-
-ruleset order = (and_assoc, and_comm, and_swap)
+turn m n = grind (arith, nat_tests)
 
 join : (w h p n x o a b g : Bool) → ((w && h && p && n) && (x && o && (a && b && g))) ≡ (((p && o) && (a && b && n) && h && g) && x && w)
-join w h p n x o a b g = simp order
+join w h p n x o a b g = grind arith
 
 third : (f u c w : Bool) → (f && (u && c && true && w)) ≡ (u && c && f && w)
-third f u c w = simp (order, and-true)
+third f u c w = grind arith
 
 noted : (p x y : Bool) → (p && x && y) ≡ (x && y && (p || false))
-noted true x y = sym (and-true (x && y))
-noted false x y = and_comm false (x && y)
+noted p x y = grind arith
 
 -- by the mode; i where the word is as iNES says
 in_mode : (z : Bool) (k : MapperType) (s h mark i : Bool) (prg chr : ℕ)
     → cond z (i && s) (not (no_powers OnBoard prg chr) && (mark || i) && turned_fit k s h)
     ≡ (screens_by (cond z House OnBoard) k s h && not (no_powers (cond z House OnBoard) prg chr) && (is_nes2_in (cond z House OnBoard) mark || i))
 unfolding screens_by no_powers is_nes2_in
-in_mode true k s h mark i prg chr = simp (order, and-true)
-in_mode false k s h mark i prg chr = simp order
+in_mode z k s h mark i prg chr = grind arith
 
 -- counts of a word of digits, and its note of PRG RAM, are in range exactly where the image is read as NES 2.0 or says what iNES says
 as_ines : (mode : Mode) (mark p : Bool) (prg chr : ℕ) → prg < 4096 → chr < 4096
     → (is_nes2_in mode mark || (p && ltb prg 256 && ltb chr 256)) ≡ (ltb prg (counts_end mode mark) && ltb chr (counts_end mode mark) && (p || is_nes2_in mode mark))
 unfolding is_nes2_in counts_end
-as_ines House mark p prg chr l m = noted p (ltb prg 256) (ltb chr 256)
-as_ines OnBoard true p prg chr l m = rw (lt-ltb prg 4096 l, lt-ltb chr 4096 m) (sym (or-true p))
-as_ines OnBoard false p prg chr l m = noted p (ltb prg 256) (ltb chr 256)
+as_ines mode mark p prg chr l m = grind arith
 
 -- each digit is the one of its enum
 by_bit : (P : ℕ → Type 0) → P 0 → P 1 → (d : ℕ) → d < 2 → P d
-by_bit P a b zero h = a
-by_bit P a b (suc zero) h = b
-by_bit P a b (suc (suc d)) h = absurd (omega arith)
+by_bit P a b d h = grind arith
 
 by_digit : (P : ℕ → Type 0) → P 0 → P 1 → P 2 → P 3 → (d : ℕ) → d < 4 → P d
-by_digit P a b c e zero h = a
-by_digit P a b c e (suc zero) h = b
-by_digit P a b c e (suc (suc d)) h = by_bit (λ (x : ℕ). P (suc (suc x))) c e d (omega arith)
+by_digit P a b c e d h = grind arith
 
 mode_back : (d : ℕ) → d < 2 → mode_number (mode_of d) ≡ d
 unfolding mode_of
@@ -228,14 +214,14 @@ module _ (r q : ℕ) where
   mmc3_of_lem mode true = refl
   mmc3_of_lem mode false =
       both_ways (eqb r 0 && eqb q 0x1000000) _
-      (λ h. rw (eqb-true r 0 (and_left (eqb r 0) (eqb q 0x1000000) h), eqb-true q 0x1000000 (and_right (eqb r 0) (eqb q 0x1000000) h)) refl)
+      (λ h. let p = and_parts (eqb r 0) (eqb q 0x1000000) h in rw (eqb-true r 0 p.0, eqb-true q 0x1000000 p.1))
       (λ h. let p = split_3 (mmc3.is_start m) (eqb (regs_word m.regs) r) (eqb (irq_word m) q) h in
       (λ i. turn r 0 i && turn q 0x1000000 i)
       ∙ sym (ap (λ (x : mmc3-type.Mmc3). eqb (regs_word x.regs) r && eqb (irq_word x) q) (mmc3_start (flat_digits bytes r) (flat_digits irq_sizes q) p.0))
       ∙ simp (p.1, p.2))
 
 all : (a x w f b s g i l : Bool) → l ≡ true → ((a && x && w) && (f && b) && (s && g && i)) ≡ ((a && (f && s) && x) && (w && l && b && g && i))
-all a x w f b s g i l e = simp (e, order, and-true)
+all a x w f b s g i l e = grind arith
 
 pub in_parts_lem : (w : Words) → in_parts w ≡ is_kept w
 unfolding is_kept in_range fits mirroring_fits same words_of board_in mmc3_is_kept part_fits

@@ -10,7 +10,7 @@ use Rattle.common.specs.declared.Mirroring.{Mirroring}
 use Rattle.cartridge.specs.Mappers.{is_mapper}
 use Rattle.cartridge.specs.declared.Cartridge.{Cartridge}
 use Rattle.cartridge.specs.declared.MapperType.{MapperType}
-use Rattle.cartridge.specs.declared.MapperType.TheVariants.{Nrom, Mmc1, Uxrom, Cnrom, Mmc3}
+use Rattle.cartridge.specs.declared.MapperType.TheVariants.{Mmc3}
 use Rattle.mmc3.specs.Clock as mmc3
 use Rattle.boards.specs.Registers.{moved, ticked}
 use Rattle.boards.specs.Write.{turned, accepted_write}
@@ -27,30 +27,26 @@ screens_moved : (c : Cartridge) (m : Mirroring) → Fits cart_sizes (cart_digits
 screens_moved c m f n = omega arith
 
 -- of the words of any board
-clock_own : (b : Board) → after_clock (words_of b) (accepted_clock b).board ≡ words_of (accepted_clock b).board
+clock_own : (b : Board) → after_clock (words_of b) (accepted_clock b).left ≡ words_of (accepted_clock b).left
 unfolding words_of accepted_clock ticked mmc3.clocked mmc3.with_irq
 clock_own b = go (is_mapper b.cart.mapper Mmc3) refl
   where
-    go : (t : Bool) → is_mapper b.cart.mapper Mmc3 ≡ t → after_clock (words_of b) (accepted_clock b).board ≡ words_of (accepted_clock b).board
+    go : (t : Bool) → is_mapper b.cart.mapper Mmc3 ≡ t → after_clock (words_of b) (accepted_clock b).left ≡ words_of (accepted_clock b).left
     go true e = simp (e)
     go false e = simp (e)
 
 write_own : (k : MapperType) (b : Board) (v a : ℕ) → Fits cart_sizes (cart_digits b.cart b.mirroring)
-    → let n = (turned b (moved k b.cart.mode b.registers v a)).board in after_write k (words_of b) n ≡ words_of n
+    → let n = (turned b (moved k b.cart.mode b.registers v a)).left in after_write k (words_of b) n ≡ words_of n
 unfolding words_of after_write turned moved is_mapper
-write_own Nrom b v a f = simp (screens_moved b.cart b.mirroring f)
-write_own Mmc1 b v a f = simp (screens_moved b.cart b.mirroring f)
-write_own Uxrom b v a f = simp (screens_moved b.cart b.mirroring f)
-write_own Cnrom b v a f = simp (screens_moved b.cart b.mirroring f)
-write_own Mmc3 b v a f = simp (screens_moved b.cart b.mirroring f)
+write_own k b v a f = grind arith
 
 module _ (w : Words) (h : is_kept w ≡ true) where
-  pub after_clock_lem : after_clock w (accepted_clock (board_in w)).board ≡ words_of (accepted_clock (board_in w)).board
-  after_clock_lem = ap (λ (v : Words). after_clock v (accepted_clock (board_in w)).board) (sym (back_and_there w h)) ∙ clock_own (board_in w)
+  pub after_clock_lem : after_clock w (accepted_clock (board_in w)).left ≡ words_of (accepted_clock (board_in w)).left
+  after_clock_lem = ap (λ (v : Words). after_clock v (accepted_clock (board_in w)).left) (sym (back_and_there w h)) ∙ clock_own (board_in w)
 
-  pub after_write_lem : (v a : ℕ) → after_write (mapper_of (flat_digits cart_sizes w.cart)) w (accepted_write (board_in w) v a).board ≡ words_of (accepted_write (board_in w) v a).board
+  pub after_write_lem : (v a : ℕ) → after_write (mapper_of (flat_digits cart_sizes w.cart)) w (accepted_write (board_in w) v a).left ≡ words_of (accepted_write (board_in w) v a).left
   unfolding board_in accepted_write
   after_write_lem v a =
       let k = mapper_of (flat_digits cart_sizes w.cart) in
-      ap (λ (x : Words). after_write k x (accepted_write (board_in w) v a).board) (sym (back_and_there w h))
+      ap (λ (x : Words). after_write k x (accepted_write (board_in w) v a).left) (sym (back_and_there w h))
       ∙ write_own k (board_in w) v a (search (arith, mode_small, mark_small, note_small, mapper_small, screens_small))

@@ -1,6 +1,6 @@
 -- The round trip of a board through its words, and of kept words through their board. Assumes nothing.
 use Prim.Native.Nat.{ℕ, ◌<◌, ◌≤◌}
-use mathlib.Core.Path.{◌≡◌, refl, sym, ap, subst, ◌∙◌}
+use mathlib.Core.Path.{◌≡◌, refl, sym, ap, ◌∙◌}
 use mathlib.Core.Bool.{true}
 use mathlib.Core.List.{List, [], ◌∷◌, ◌++◌}
 use mathlib.Core.Logic.{◌↔◌}
@@ -10,7 +10,8 @@ use lib.Dec.{eqb}
 use lib.ListN.{take, drop}
 use Rattle.rules.specs.Rows.{digit, Fits, bytes}
 use Rattle.rules.specs.Flat.{flat_word}
-use Rattle.rules.proofs.Bools.{and_left, split_5}
+use Rattle.std.proofs.lemmas.Bool.{and_parts}
+use Rattle.rules.proofs.Bools.{split_5}
 use Rattle.rules.proofs.Rows.{product, whole, mark_there}
 use Rattle.rules.proofs.Flat.{flat_there, flat_small}
 use Rattle.rules.proofs.Kept.{comes_back, is_kept_lem, just_those}
@@ -95,7 +96,7 @@ digits_tell v w h k e = one_row_each v w h k (ap told e)
 -- the board that kept words hold is in range
 pub held_in_range : (w : Words) → is_kept w ≡ true → in_range (board_in w) ≡ true
 unfolding is_kept
-held_in_range w h = and_left (in_range (board_in w)) (same (words_of (board_in w)) w) h
+held_in_range w h = (and_parts (in_range (board_in w)) (same (words_of (board_in w)) w) h).0
 
 -- and of its types, where word 1 is one of 64 bits
 pub held_of_its_types : (w : Words) → w.length < 0x10000000000000000 → OfItsTypes (board_in w)
@@ -112,7 +113,3 @@ pub exactly : (w : Words) → w.length < 0x10000000000000000
     → (is_kept w ≡ true) ↔ ((b : Board) × OfItsTypes b × (in_range b ≡ true) × (words_of b ≡ w))
 unfolding is_kept
 exactly w l = just_those words_of board_in in_range same same_is same_self OfItsTypes there_and_back w (held_of_its_types w l)
-
--- kept words are words of 64 bits, whatever of them the length is
-pub kept_of_words : (w : Words) → is_kept w ≡ true → w.length < 0x10000000000000000 → OfWords w
-kept_of_words w h l = subst OfWords (back_and_there w h) (words_of_64 (board_in w) (held_of_its_types w l) (held_in_range w h))

@@ -4,10 +4,11 @@ use mathlib.Core.Path.{◌≡◌, refl, ap, ap₂}
 use mathlib.Core.Bool.{Bool, true, ◌&&◌}
 use mathlib.Core.List.{List, [], ◌∷◌}
 use mathlib.Core.Logic.{◌↔◌}
+use native.Mathlib.Omega.{arith}
 use borrow.Author.Tests.{eqb-true, not-true}
 use lib.Dec.{eqb}
 use Rattle.rules.specs.Rows.{digit}
-use Rattle.rules.proofs.Bools.{and_left, and_right}
+use Rattle.std.proofs.lemmas.Bool.{and_parts}
 use Rattle.uxrom.specs.Uxrom as uxrom
 use Rattle.uxrom.specs.declared.Uxrom as uxrom-type
 use Rattle.cnrom.specs.Cnrom as cnrom
@@ -37,7 +38,7 @@ are_zero : (b : Bool) (ds : List ℕ) → zero_too b ds ≡ true → (b ≡ true
 are_zero b [] e = (e, refl)
 are_zero b (d ∷ ds) e =
     let p = are_zero (b && eqb d 0) ds e in
-    (and_left b (eqb d 0) p.0, ap₂ ◌∷◌ (eqb-true d 0 (and_right b (eqb d 0) p.0)) p.1)
+    ((and_parts b (eqb d 0) p.0).0, ap₂ ◌∷◌ (eqb-true d 0 (and_parts b (eqb d 0) p.0).1) p.1)
 
 pub mmc1_unused : (m : mmc1-type.Mmc1) → (mmc1.is_unused m ≡ true) ↔ (m ≡ mmc1.unused)
 unfolding mmc1.is_unused
@@ -52,17 +53,17 @@ pub mmc3_start : (d e : List ℕ) → mmc3.is_start (mmc3_of d e) ≡ true → m
 unfolding mmc3.is_start mmc3.irq_is_start mmc3.ram_is_start mmc3.start register
 mmc3_start d e h =
     let z : (k : ℕ) → eqb (digit e k) 0 ≡ true → digit e k ≡ 0 = λ k t. eqb-true (digit e k) 0 t in
-    let select = z 2 (search (and_left, and_right)) in
-    let prgmode = z 3 (search (and_left, and_right)) in
-    let chrmode = z 4 (search (and_left, and_right)) in
-    let regs = (are_zero true (regs_digits d) (search (and_left, and_right))).1 in
-    let enabled = not-true (eqb (digit e 5) 1) (search (and_left, and_right)) in
-    let latch = z 0 (search (and_left, and_right)) in
-    let counter = z 1 (search (and_left, and_right)) in
-    let reload = not-true (eqb (digit e 6) 1) (search (and_left, and_right)) in
-    let line = not-true (eqb (digit e 7) 1) (search (and_left, and_right)) in
-    let ram : eqb (digit e 8) 1 ≡ true = search (and_left, and_right) in
-    let denied = not-true (eqb (digit e 9) 1) (search (and_left, and_right)) in
+    let select = z 2 (grind arith) in
+    let prgmode = z 3 (grind arith) in
+    let chrmode = z 4 (grind arith) in
+    let regs = (are_zero true (regs_digits d) (grind arith)).1 in
+    let enabled = not-true (eqb (digit e 5) 1) (grind arith) in
+    let latch = z 0 (grind arith) in
+    let counter = z 1 (grind arith) in
+    let reload = not-true (eqb (digit e 6) 1) (grind arith) in
+    let line = not-true (eqb (digit e 7) 1) (grind arith) in
+    let ram : eqb (digit e 8) 1 ≡ true = grind arith in
+    let denied = not-true (eqb (digit e 9) 1) (grind arith) in
     λ i. record {
       select = select i;
       prgmode = prgmode i;

@@ -1,11 +1,7 @@
 -- Bytes laid after bytes are their concatenation laid at once. Assumes nothing.
-use mathlib.Core.Path.{◌≡◌, sym, ap, ◌∙◌}
-use mathlib.Core.List.{List, [], ◌∷◌, ◌++◌}
-use Prim.Native.Nat.{ℕ, suc, ◌+◌, ◌≤◌, ◌<◌}
-use native.Mathlib.Numerals.{add-one}
-use native.Mathlib.Omega.{arith}
-use lib.ListN.{length, take, get_or, set, length-append}
-use lib.Seq.{take-suc, length-take-le}
+use Rattle.std.proofs.Common.{◌≡◌, ℕ, suc, ◌+◌, ◌<◌, List, [], ◌∷◌, ◌++◌, length, take, get_or, set, refl, sym, ap, subst, ◌∙◌, arith, length-append}
+use Rattle.std.proofs.lemmas.List.{take_more}
+use Rattle.traces.specs.declared.Text.{Text}
 use Rattle.traces.specs.Text.{laid}
 use Rattle.traces.specs.Steps.{Puts}
 
@@ -16,29 +12,24 @@ laid_append s at (x ∷ xs) ys =
     laid_append (set s at x) (suc at) xs ys
     ∙ ap (λ (n : ℕ). laid (laid (set s at x) (suc at) xs) n ys) (omega arith)
 
--- one byte more
-pub lay_more : (s : List ℕ) (at i : ℕ) (bs : List ℕ) → i < length bs
-    → set (laid s at (take i bs)) (at + i) (get_or bs i 0) ≡ laid s at (take (i + 1) bs)
-unfolding laid
-lay_more s at i bs h =
-    let n : length (take i bs) ≡ i = length-take-le i bs (omega arith) in
-    rw (add-one i, take-suc bs i 0 h, laid_append, n)
-
--- two functions that write one after the other
-module _ {k m : ℕ} {s : List ℕ} {at : ℕ} {xs : List ℕ} {r : ℕ} {s' : List ℕ} {ys : List ℕ} {r' : ℕ} {s'' : List ℕ} where
-  pub join : Puts k s at xs r s' → Puts m s' r ys r' s'' → Puts (k + m) s at (xs ++ ys) r' s''
-  join p q =
+-- two writes, one after the other
+module _ {xs ys : List ℕ} {a b c : Text} (p : Puts xs a b) (q : Puts ys b c) where
+  pub join : Puts (xs ++ ys) a c
+  join =
       record {
-        next = rw length-append (omega (arith, p.next, q.next));
-        text = q.text ∙ rw (p.text, p.next) (sym (laid_append s at xs ys));
-        room = omega arith;
+        same = q.same ∙ p.same;
+        text = λ h. let n = length-append xs ys in q.text (omega arith) ∙ rw (p.text (omega arith), p.next (omega arith)) (sym (laid_append a.bytes.now a.at xs ys));
+        next = λ h. let n = length-append xs ys in q.next (omega arith) ∙ (omega arith);
       }
 
--- the same bytes under another name, and a looser bound
-pub named : {k m : ℕ} {s : List ℕ} {at : ℕ} {xs ys : List ℕ} {r : ℕ} {s' : List ℕ} → xs ≡ ys → k ≤ m → Puts k s at xs r s' → Puts m s at ys r s'
-named {s = s} {at = at} e h p =
-    record {
-      next = p.next ∙ ap (λ (l : List ℕ). at + length l) e;
-      text = p.text ∙ ap (laid s at) e;
-      room = omega arith;
-    }
+-- no byte, and one byte more
+pub put_none : (a : Text) → Puts [] a a
+unfolding laid
+put_none a = record { same = refl; text = λ _. refl; next = λ _. omega arith }
+
+pub put_more : {a b c : Text} (bs : List ℕ) (i : ℕ) → i < length bs → Puts (take i bs) a b → Puts (get_or bs i 0 ∷ []) b c → Puts (take (i + 1) bs) a c
+put_more bs i h p q = rw (take_more bs i 0 h) (join p q)
+
+-- the same bytes under another name
+pub named : {xs ys : List ℕ} {a b : Text} → xs ≡ ys → Puts xs a b → Puts ys a b
+named {a = a} {b = b} e p = subst (λ (l : List ℕ). Puts l a b) e p

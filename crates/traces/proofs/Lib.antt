@@ -1,4 +1,6 @@
+pub mod Fits
 pub mod Laid
+pub mod Lengths
 pub mod Turns
 pub mod Whole
 pub mod Unique

@@ -1,25 +1,41 @@
 -- An event after the first i gives the moment and the lines of the first i + 1. Assumes nothing.
-use mathlib.Core.Path.{◌≡◌, refl, ap, ◌∙◌, subst}
-use mathlib.Core.List.{List}
-use Prim.Native.Nat.{ℕ, ◌+◌, ◌*◌}
-use native.Mathlib.Numerals.{add-one}
-use native.Mathlib.Omega.{arith}
-use Rattle.boards.specs.Runs.{Moment, said, stepped}
-use Rattle.boards.specs.declared.Board.{Board}
-use Rattle.traces.specs.Format.{event_at}
+use Rattle.std.proofs.Common.{◌≡◌, ℕ, zero, suc, ◌+◌, ◌<◌, true, ◌&&◌, eqb, Some, List, length, refl, ◌∙◌, arith, add-one, below_more}
+use Rattle.std.proofs.lemmas.Bool.{and_parts}
+use Rattle.boards.specs.declared.Answer.{Answer}
+use Rattle.boards.specs.declared.Event.{Event}
+use Rattle.traces.specs.declared.Machine.{Machine}
+use Rattle.traces.specs.declared.Text.{Text}
+use Rattle.traces.specs.Format.{is_trace, head_fits, fits_at, events_fit, event_at, event_count, event_start}
 use Rattle.traces.specs.Text.{line}
-use Rattle.traces.specs.Run.{held, after, lines}
-use Rattle.traces.specs.Steps.{Puts, StepOwes}
-use Rattle.traces.specs.declared.Step.{Step}
-use Rattle.traces.proofs.Laid.{join, named}
+use Rattle.traces.specs.Run.{after, lines}
+use Rattle.traces.specs.Steps.{event_in, Puts, EventOwes, EventsOwe}
+use Rattle.traces.proofs.Laid.{put_none, join}
 
-module _ {t : List ℕ} (m₀ : Moment) {i : ℕ} {b : Board} {prg chr : List ℕ} {at : ℕ} {text : List ℕ} {r : Step} {prg' chr' text' : List ℕ} (e : held t b prg chr ≡ after t m₀ i) (o : StepOwes t i (held t b prg chr) at text r prg' chr' text') where
-  pub next_moment : held t r.board prg' chr' ≡ after t m₀ (i + 1)
-  unfolding after
-  next_moment = rw (add-one i) (o.moves ∙ ap (λ (m : Moment). stepped m (event_at t i)) e)
+-- each of the events that fit fits
+fits_below : (t : List ℕ) (n : ℕ) → events_fit t n ≡ true → (i : ℕ) → i < n → fits_at t i ≡ true
+unfolding events_fit
+fits_below t zero e i h = absurd (omega arith)
+fits_below t (suc n) e i h =
+    below_more (λ k. fits_at t k ≡ true) n (fits_below t n (and_parts (events_fit t n) (fits_at t n) e).0) (and_parts (events_fit t n) (fits_at t n) e).1 i (omega arith)
 
-  pub next_lines : {from : ℕ} {text₀ : List ℕ} → Puts (15 * i) text₀ from (lines t m₀ i) at text → Puts (15 * (i + 1)) text₀ from (lines t m₀ (i + 1)) r.at text'
-  unfolding lines
-  next_lines p =
+-- of a well-formed trace each event is there
+pub is_there : (t : List ℕ) → is_trace t ≡ true → (i : ℕ) → i < event_count t → event_in t i ≡ Some (event_at t i)
+unfolding is_trace event_in
+is_there t e i h =
+    let fit = (and_parts (head_fits t && eqb (length t) (event_start t (event_count t))) (events_fit t (event_count t)) e).1 in
+    rw (fits_below t (event_count t) fit i h) refl
+
+pub no_turn : (t : List ℕ) (m : Machine) (text : Text) → EventsOwe t 0 m text m text
+unfolding after lines
+no_turn t m text = record { says = put_none text; moves = refl; same = record { prg = refl; chr = refl } }
+
+module _ {t : List ℕ} {i : ℕ} {e : Event} {r : Answer} {m m₁ m₂ : Machine} {text text₁ text₂ : Text} where
+  pub next_turn : e ≡ event_at t i → EventsOwe t i m text m₁ text₁ → EventOwes e m₁ r m₂ → Puts (line i r) text₁ text₂ → EventsOwe t (i + 1) m text m₂ text₂
+  unfolding after lines
+  next_turn k o p q =
       rw (add-one i)
-      (named refl (omega arith) (join p (subst (λ (m : Moment). Puts 15 text at (line i (said m (event_at t i))) r.at text') e o.says)))
+      (record {
+        says = join o.says (rw (← o.moves, ← k, ← p.says) q);
+        moves = p.moves ∙ rw (o.moves, k) refl;
+        same = record { prg = p.same.prg ∙ o.same.prg; chr = p.same.chr ∙ o.same.chr };
+      })

@@ -1,69 +1,61 @@
 -- The run of a trace, put together from what its steps owe. Assumes nothing.
-use mathlib.Core.Path.{◌≡◌, refl}
-use mathlib.Core.Bool.{true, false, ◌&&◌}
-use mathlib.Core.List.{List}
-use Prim.Native.Nat.{ℕ, ◌≤◌}
-use native.Mathlib.Omega.{arith}
-use borrow.Author.Tests.{leb-true}
-use lib.Dec.{eqb, leb}
-use lib.ListN.{length}
-use Rattle.rules.proofs.Bools.{and_left, and_right}
+use Rattle.std.proofs.Common.{◌≡◌, ◌≤◌, ℕ, true, false, List, length, ◌∙◌, ap, refl, arith}
 use Rattle.common.specs.declared.Mode.{Mode}
 use Rattle.common.specs.declared.Refusal.{Refusal}
 use Rattle.common.specs.declared.Refusal.TheVariants.{TraceMalformed}
-use Rattle.memory.specs.Memory.{byte}
-use Rattle.boards.specs.Start.{LoadOwes}
+use Rattle.boards.specs.Start.{LoadOwes, load_answer, board_of}
 use Rattle.boards.specs.Runs.{Moment}
-use Rattle.boards.specs.declared.Loaded.{Loaded}
-use Rattle.traces.specs.Format.{is_trace, head_fits, events_fit, event_count, event_start, image_length, image_of, mode_of}
+use Rattle.boards.specs.Start.{Loaded}
+use Rattle.traces.specs.declared.Machine.{Machine}
+use Rattle.traces.specs.declared.Text.{Text}
+use Rattle.traces.specs.Format.{is_trace, event_count, image_of, mode_of}
 use Rattle.traces.specs.Text.{load_line, refused_line}
-use Rattle.traces.specs.Run.{held, stopped, accepted_run, loaded_run, loaded, started, trace_run, ran, RunOwes}
-use Rattle.traces.specs.Steps.{Puts, EventsOwe}
+use Rattle.traces.specs.Run.{Ran, held, stopped, accepted_run, loaded_run, loaded, started, trace_run, ran, RunOwes}
+use Rattle.traces.specs.Steps.{Puts, moment_of, EventsOwe, ShowsRun}
 use Rattle.traces.proofs.Laid.{join}
 
--- a well-formed trace has no more events than the text has room for
-pub few : (t : List ℕ) → is_trace t ≡ true → event_count t ≤ 1024
-unfolding is_trace head_fits
-few t e =
-    let ends = and_left (head_fits t && eqb (length t) (event_start t (event_count t))) (events_fit t (event_count t)) e in
-    let head = and_left (head_fits t) (eqb (length t) (event_start t (event_count t))) ends in
-    leb-true (event_count t) 1024
-    (and_right (eqb (byte t 0) 1 && leb (image_length t) 40976 && leb (byte t 5) 1) (leb (event_count t) 1024) head)
-
-module _ (t text : List ℕ) {r : ℕ} {prg' chr' text' : List ℕ} where
-  -- the load's line, then the lines of all events
-  pub whole : (m : Moment) {at : ℕ} {text₁ : List ℕ} {k : ℕ} → k ≡ event_count t → k ≤ 1024
-      → Puts 25 text 0 (load_line m.board.cart) at text₁ → EventsOwe t k m at text₁ r prg' chr' text'
-      → RunOwes (accepted_run t m) text r prg' chr' text'
+-- the load's line, then the lines of all events
+module _ {t prg' chr' : List ℕ} {m m' : Machine} {text text₁ text₂ : Text} where
+  pub whole : Puts (load_line m.board.cart) text text₁ → EventsOwe t (event_count t) m text₁ m' text₂ → prg' ≡ m'.prg.now → chr' ≡ m'.chr.now
+      → ShowsRun (accepted_run t (moment_of m)) text text₂ prg' chr'
   unfolding accepted_run
-  whole m {k = k} e h p o =
-      let q = join p o.says in
-      rw (← e)
-      (record {
-        count = omega (arith, q.next);
-        shown = q.text;
-        prg_ram = o.prg_ram;
-        chr_ram = o.chr_ram;
-        most = omega arith;
-      })
+  whole p o e f =
+      record {
+        says = join p o.says;
+        prg_ram = e ∙ ap (λ (m : Moment). m.lent.prg) o.moves;
+        chr_ram = f ∙ ap (λ (m : Moment). m.lent.chr) o.moves;
+      }
 
-  -- nothing but the refusal
-  pub ended : (why : Refusal) → Puts 14 text 0 (refused_line why) r text' → RunOwes (stopped why prg' chr') text r prg' chr' text'
-  unfolding stopped
-  ended why p = record { count = omega (arith, p.next); shown = p.text; prg_ram = refl; chr_ram = refl; most = omega arith }
+-- nothing but the refusal
+pub ended : (why : Refusal) {prg chr : List ℕ} {text text₁ : Text} → Puts (refused_line why) text text₁ → ShowsRun (stopped why prg chr) text text₁ prg chr
+unfolding stopped
+ended why p = record { says = p; prg_ram = refl; chr_ram = refl }
 
-  -- from the moment after the load
-  pub from_load : {image : List ℕ} {mode : Mode} {prg chr : List ℕ} {l : Loaded} {prg₁ chr₁ : List ℕ}
-      → image ≡ image_of t → mode ≡ mode_of t → LoadOwes image mode prg chr l prg₁ chr₁
-      → RunOwes (loaded_run l.answer t (held t l.board prg₁ chr₁)) text r prg' chr' text'
-      → RunOwes (trace_run t prg chr) text r prg' chr' text'
+-- from the moment after the load
+module _ (t : List ℕ) {image prg chr prg₁ chr₁ prg' chr' : List ℕ} {mode : Mode} {l : Loaded} {text text' : Text} where
+  pub from_load : image ≡ image_of t → mode ≡ mode_of t → LoadOwes image mode prg chr l prg₁ chr₁
+      → ShowsRun (loaded_run (load_answer l) t (held t (board_of l) prg₁ chr₁)) text text' prg' chr'
+      → ShowsRun (trace_run t prg chr) text text' prg' chr'
   unfolding trace_run loaded started
   from_load e m o w = rw (← e, ← m) (rw (← e, o.reply, o.prg_ram, o.chr_ram) at w)
 
-  pub accepted : (prg chr : List ℕ) → is_trace t ≡ true → RunOwes (trace_run t prg chr) text r prg' chr' text' → RunOwes (ran t prg chr) text r prg' chr' text'
-  unfolding ran
-  accepted prg chr e w = rw e w
+-- either way, from the start of the buffer on
+module _ {w : Ran} {prg' chr' text text' : List ℕ} {old new : Text} where
+  pub owed : ShowsRun w old new prg' chr' → length w.text ≤ 16384 → old.at ≡ 0 → old.bytes.now ≡ text → text' ≡ new.bytes.now → RunOwes w text new.at prg' chr' text'
+  owed s h z e f =
+      record {
+        count = s.says.next (omega arith) ∙ omega arith;
+        shown = f ∙ s.says.text (omega arith) ∙ rw (z, e) refl;
+        prg_ram = s.prg_ram;
+        chr_ram = s.chr_ram;
+        most = omega (arith, s.says.next (omega arith));
+      }
 
-  pub malformed : is_trace t ≡ false → Puts 14 text 0 (refused_line TraceMalformed) r text' → RunOwes (ran t prg' chr') text r prg' chr' text'
-  unfolding ran
-  malformed e p = rw e (ended TraceMalformed p)
+-- a well-formed trace is run, any other refused
+pub accepted : (t prg chr : List ℕ) {old new : Text} {prg' chr' : List ℕ} → is_trace t ≡ true → ShowsRun (trace_run t prg chr) old new prg' chr' → ShowsRun (ran t prg chr) old new prg' chr'
+unfolding ran
+accepted t prg chr e s = rw e s
+
+pub malformed : (t : List ℕ) {prg chr : List ℕ} {old new : Text} → is_trace t ≡ false → Puts (refused_line TraceMalformed) old new → ShowsRun (ran t prg chr) old new prg chr
+unfolding ran
+malformed t e p = rw e (ended TraceMalformed p)

@@ -1,15 +1,12 @@
 -- A run of a trace: the load, then one event after another, and the text of it all.
-use Rattle.std.specs.Prelude.{ℕ, zero, suc, ◌≤◌, ◌≡◌, cond, List, [], ◌++◌, length}
+use Rattle.std.specs.Prelude.{ℕ, zero, suc, ◌≤◌, ◌≡◌, cond, List, [], ◌++◌, length, Ok, Err}
 use Rattle.common.specs.declared.Mode.{Mode}
 use Rattle.common.specs.declared.Refusal.{Refusal}
 use Rattle.common.specs.Answers.{no}
 use Rattle.cartridge.specs.Load.{verdict, ram_after}
-use Rattle.boards.specs.Start.{load}
+use Rattle.boards.specs.Start.{Loaded, LoadAnswer, load, board_of, load_answer}
 use Rattle.boards.specs.Runs.{lent, Moment, moment, said, stepped}
 use Rattle.boards.specs.declared.Board.{Board}
-use Rattle.boards.specs.declared.Loaded.{Loaded}
-use Rattle.boards.specs.declared.LoadAnswer.{LoadAnswer}
-use Rattle.boards.specs.declared.LoadAnswer.TheVariants.{Accepted, Refused}
 use Rattle.traces.specs.Format.{is_trace, mode_of, image_of, event_count, event_at}
 use Rattle.traces.specs.Text.{line, load_line, refused_line, laid}
 
@@ -45,8 +42,8 @@ accepted_run t m =
 
 -- "A refused load prints `refused N`"
 unfoldable pub loaded_run : LoadAnswer → List ℕ → Moment → Ran
-loaded_run Accepted t m = accepted_run t m
-loaded_run (Refused why) t m = stopped why m.lent.prg m.lent.chr
+loaded_run (Ok tt) t m = accepted_run t m
+loaded_run (Err why) t m = stopped why m.lent.prg m.lent.chr
 
 -- what a load of the image answers
 unfoldable pub loaded : List ℕ → Mode → List ℕ → List ℕ → Loaded
@@ -56,11 +53,11 @@ loaded image mode prg chr = load image mode (length prg) (length chr)
 unfoldable pub started : List ℕ → List ℕ → List ℕ → Moment
 started t prg chr =
     let v = verdict (image_of t) (mode_of t) (length prg) (length chr) in
-    held t (loaded (image_of t) (mode_of t) prg chr).board (ram_after v prg) (ram_after v chr)
+    held t (board_of (loaded (image_of t) (mode_of t) prg chr)) (ram_after v prg) (ram_after v chr)
 
 -- the run of a well-formed trace: the load, then the events
 unfoldable pub trace_run : List ℕ → List ℕ → List ℕ → Ran
-trace_run t prg chr = loaded_run (loaded (image_of t) (mode_of t) prg chr).answer t (started t prg chr)
+trace_run t prg chr = loaded_run (load_answer (loaded (image_of t) (mode_of t) prg chr)) t (started t prg chr)
 
 -- "Anything else, missing or left over prints only `refused 15`, before any load"
 unfoldable pub ran : List ℕ → List ℕ → List ℕ → Ran

@@ -1,36 +1,47 @@
 -- What the steps of a run owe one another. No public promise cites this file.
-use Rattle.std.specs.Prelude.{ℕ, ◌+◌, ◌*◌, ◌≤◌, ◌≡◌, List, length}
-use Rattle.memory.specs.Memory.{byte}
-use Rattle.boards.specs.Runs.{Moment, said, stepped}
-use Rattle.traces.specs.Format.{big2, event_start, event_at}
-use Rattle.traces.specs.Text.{line, laid}
-use Rattle.traces.specs.Run.{held, after, lines}
-use Rattle.traces.specs.declared.Fields.{Fields}
-use Rattle.traces.specs.declared.Step.{Step}
+use Rattle.std.specs.Prelude.{ℕ, ◌+◌, ◌<◌, ◌^◌, ◌≡◌, cond, Option, Some, None, List, length}
+use Rattle.boards.specs.Runs.{Moment, moment, lent, said, stepped}
+use Rattle.boards.specs.declared.Answer.{Answer}
+use Rattle.boards.specs.declared.Event.{Event}
+use Rattle.traces.specs.Format.{event_at, fits_at}
+use Rattle.traces.specs.Text.{laid}
+use Rattle.traces.specs.Run.{Ran, after, lines}
+use Rattle.traces.specs.declared.Text.{Text}
+use Rattle.traces.specs.declared.Machine.{Machine}
 
--- the four bytes of event i
-unfoldable pub fields_at : List ℕ → ℕ → Fields
-fields_at t i =
-    let s = event_start t i in
-    record { kind = byte t s; address = big2 (byte t (s + 1)) (byte t (s + 2)); value = byte t (s + 3) }
+-- event i of a trace, where its bytes are one
+unfoldable pub event_in : List ℕ → ℕ → Option Event
+event_in t i = cond (fits_at t i) (Some (event_at t i)) None
 
--- there is room for k bytes more: no count of bytes comes near the greatest number
-abbrev pub Room : ℕ → ℕ → Type 0
-Room at k = at + k ≤ 0x10000
+-- what writing bytes owes: the buffer with them laid in, and the place after them, while that is a number; it is the same buffer
+pub record Puts (bytes : List ℕ) (old new : Text) : Type 0 where
+  pub same : new.bytes.ghost_name ≡ old.bytes.ghost_name
+  pub text : old.at + length bytes < 2 ^ 64 → new.bytes.now ≡ laid old.bytes.now old.at bytes
+  pub next : old.at + length bytes < 2 ^ 64 → new.at ≡ old.at + length bytes
 
--- what writing bytes at a place owes: the place after them, the buffer with them laid in, and no more of them than said
-pub record Puts (most : ℕ) (s : List ℕ) (at : ℕ) (bytes : List ℕ) (r : ℕ) (s' : List ℕ) : Type 0 where
-  pub next : r ≡ at + length bytes
-  pub text : s' ≡ laid s at bytes
-  pub room : r ≤ at + most
+-- the moment that a machine is in
+abbrev pub moment_of : Machine → Moment
+moment_of m = moment m.board (lent m.image.now m.prg.now m.chr.now)
 
--- what an event owes: its line, and the moment after it
-pub record StepOwes (t : List ℕ) (i : ℕ) (m : Moment) (at : ℕ) (text : List ℕ) (r : Step) (prg' chr' text' : List ℕ) : Type 0 where
-  pub says : Puts 15 text at (line i (said m (event_at t i))) r.at text'
-  pub moves : held t r.board prg' chr' ≡ stepped m (event_at t i)
+-- the RAMs are the same ones, whatever stands in them
+pub record SameRams (old new : Machine) : Type 0 where
+  pub prg : new.prg.ghost_name ≡ old.prg.ghost_name
+  pub chr : new.chr.ghost_name ≡ old.chr.ghost_name
 
--- what the first events owe: their lines, and both RAMs after them
-pub record EventsOwe (t : List ℕ) (k : ℕ) (m : Moment) (from : ℕ) (text : List ℕ) (r : ℕ) (prg' chr' text' : List ℕ) : Type 0 where
-  pub says : Puts (15 * k) text from (lines t m k) r text'
-  pub prg_ram : prg' ≡ (after t m k).lent.prg
-  pub chr_ram : chr' ≡ (after t m k).lent.chr
+-- what an event owes: its answer, and the moment after it
+pub record EventOwes (e : Event) (old : Machine) (r : Answer) (new : Machine) : Type 0 where
+  pub says : r ≡ said (moment_of old) e
+  pub moves : moment_of new ≡ stepped (moment_of old) e
+  pub same : SameRams old new
+
+-- what the first events owe: their lines, and the moment after them
+pub record EventsOwe (t : List ℕ) (k : ℕ) (old : Machine) (text : Text) (new : Machine) (text' : Text) : Type 0 where
+  pub says : Puts (lines t (moment_of old) k) text text'
+  pub moves : moment_of new ≡ after t (moment_of old) k
+  pub same : SameRams old new
+
+-- what a run owes: its text, and both RAMs
+pub record ShowsRun (w : Ran) (text text' : Text) (prg' chr' : List ℕ) : Type 0 where
+  pub says : Puts w.text text text'
+  pub prg_ram : prg' ≡ w.prg
+  pub chr_ram : chr' ≡ w.chr

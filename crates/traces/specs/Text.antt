@@ -1,13 +1,13 @@
 -- The text of a run: document 01, "Trace program", from "prints" on. Each line ends in a newline.
-use Rattle.std.specs.Prelude.{ℕ, suc, ◌+◌, ◌/◌, ◌%◌, cond, List, [], ◌∷◌, ◌++◌, ltb, drop, set}
+use Rattle.std.specs.Prelude.{ℕ, suc, ◌+◌, ◌/◌, ◌%◌, cond, List, [], ◌∷◌, ◌++◌, ltb, drop, set, Some, None, Ok, Err, true, false}
 use Rattle.common.specs.Answers.{refusal_number, mirroring_letter}
 use Rattle.common.specs.declared.Mirroring.{Mirroring}
 use Rattle.common.specs.declared.Refusal.{Refusal}
 use Rattle.cartridge.specs.Mappers.{mapper_number}
 use Rattle.cartridge.specs.declared.Cartridge.{Cartridge}
-use Rattle.places.specs.declared.ReadAnswer as Reads
-use Rattle.boards.specs.declared.WriteAnswer as Writes
-use Rattle.boards.specs.declared.ClockAnswer as Clocks
+use Rattle.places.specs.Places.{ReadAnswer}
+use Rattle.boards.specs.Write.{WriteAnswer}
+use Rattle.boards.specs.Clock.{ClockAnswer}
 use Rattle.boards.specs.declared.Answer.{Answer}
 use Rattle.boards.specs.declared.Answer.TheVariants.{Read, Write, Clock}
 
@@ -40,25 +40,25 @@ unfoldable pub refusal : Refusal → List ℕ
 refusal why = (0x21 ∷ []) ++ decimal (refusal_number why)
 
 -- a read's answer
-unfoldable pub read_text : Reads.ReadAnswer → List ℕ
-read_text (Reads.TheVariants.Byte b) = hex b
-read_text (Reads.TheVariants.Refused why) = refusal why
+unfoldable pub read_text : ReadAnswer → List ℕ
+read_text (Ok b) = hex b
+read_text (Err why) = refusal why
 
 -- "a notice letter H, V, U (upper), L (lower)"
 unfoldable pub notice_text : Mirroring → List ℕ
 notice_text m = mirroring_letter m ∷ []
 
 -- a write's: the letter "or `-`"
-unfoldable pub write_text : Writes.WriteAnswer → List ℕ
-write_text (Writes.TheVariants.Notice m) = notice_text m
-write_text Writes.TheVariants.Quiet = 0x2D ∷ []
-write_text (Writes.TheVariants.Refused why) = refusal why
+unfoldable pub write_text : WriteAnswer → List ℕ
+write_text (Ok (Some m)) = notice_text m
+write_text (Ok None) = 0x2D ∷ []
+write_text (Err why) = refusal why
 
 -- a clock's: "1 or 0"
-unfoldable pub clock_text : Clocks.ClockAnswer → List ℕ
-clock_text Clocks.TheVariants.Yes = 0x31 ∷ []
-clock_text Clocks.TheVariants.No = 0x30 ∷ []
-clock_text (Clocks.TheVariants.Refused why) = refusal why
+unfoldable pub clock_text : ClockAnswer → List ℕ
+clock_text (Ok true) = 0x31 ∷ []
+clock_text (Ok false) = 0x30 ∷ []
+clock_text (Err why) = refusal why
 
 -- "R, W or C"
 unfoldable pub letter : Answer → ℕ

@@ -2,289 +2,130 @@
 // The format and the text are document 01's, "Trace program". Not in the Rust.
 #![tactic(auto)]
 
-ghost use Rattle.std.specs.Prelude.{◌≡◌, ◌+◌, ◌≤◌, [], ◌∷◌, length};
-ghost use Rattle.traces.specs.Format.{big2, big4, image_length, mode_of, image_of, event_count, event_start, event_of, event_at, is_event, fits_at, events_fit, head_fits, is_trace};
-ghost use Rattle.traces.specs.Text.{digit, five_digits, leading, decimal, hex_digit, hex, refusal, read_text, notice_text, write_text, clock_text, letter, answer_text, between, line, refused_line, counts, load_line};
-ghost use Rattle.traces.specs.Run.{held, accepted_run, loaded_run, trace_run, ran, RunOwes};
-ghost use Rattle.traces.specs.Steps.{fields_at, Room, Puts, StepOwes, EventsOwe};
+ghost use Rattle.std.specs.Prelude.{◌≡◌, ◌≤◌, [], ◌∷◌, true};
+ghost use Rattle.traces.specs.Format.{image_length, mode_of, image_of, event_count, event_start, events_fit, head_fits, is_trace};
+ghost use Rattle.traces.specs.Text.{five_digits, leading, decimal, hex_digit, hex, refusal, read_text, write_text, clock_text, letter, answer_text, between, line, refused_line, counts, load_line};
+ghost use Rattle.traces.specs.Run.{trace_run, ran, RunOwes};
+ghost use Rattle.traces.specs.Steps.{event_in, Puts, EventOwes, EventsOwe, ShowsRun};
 
-use boards::{Answer, Board, ClockAnswer, Event, LoadAnswer, WriteAnswer};
+use boards::{Answer, Board, ClockAnswer, Event, WriteAnswer};
 use cartridge::Cartridge;
-use common::{Mirroring, Mode, Refusal};
+use common::{Mode, Refusal};
 use places::ReadAnswer;
-
-// The four bytes of an event.
-#[derive(Clone, Copy)]
-pub struct Fields {
-    pub kind: u8,
-    pub address: u16,
-    pub value: u8,
-}
-
-// Where a run stands after an event: the next board, and the place in the text.
-#[derive(Clone, Copy)]
-pub struct Step {
-    pub board: Board,
-    pub at: usize,
-}
 
 // The format: document 01 from "Standard input" to "left over".
 
-fn big_2(high: u8, low: u8) -> u16
-    ensures { result ≡ big2 high low }
+#[tactic(auto, unfolding(crate::specs::Format::image_length))]
+fn image_length(trace: &[u8]) -> u32
+    ensures { result ≡ image_length trace.now }
 {
-    (high as u16) * 256 + (low as u16)
+    u32::from_be_bytes([1, 2, 3, 4].map(|at| memory::byte_at(trace, at)))
 }
 
-fn big_4(a: u8, b: u8, c: u8, d: u8) -> usize
-    ensures { (result ≡ big4 a b c d) × (result ≤ 0xFFFFFFFF) }
-{
-    (((a as usize) * 256 + (b as usize)) * 256 + (c as usize)) * 256 + (d as usize)
-}
-
-fn image_length(trace: &[u8]) -> usize
-    ensures { (result ≡ image_length trace.now) × (result ≤ 0xFFFFFFFF) }
-{
-    big_4(
-        memory::byte_at(trace, 1),
-        memory::byte_at(trace, 2),
-        memory::byte_at(trace, 3),
-        memory::byte_at(trace, 4),
-    )
-}
-
+#[tactic(auto, unfolding(crate::specs::Format::mode_of))]
 fn mode_of(trace: &[u8]) -> Mode
     ensures { result ≡ mode_of trace.now }
 {
-    Mode::numbered(memory::byte_at(trace, 5))
+    Mode::from(memory::byte_at(trace, 5))
 }
 
+#[tactic(auto, unfolding(crate::specs::Format::image_of))]
 fn image_of(trace: &[u8]) -> &[u8]
     ensures { result.now ≡ image_of trace.now }
 {
-    memory::part_of(trace, 6, image_length(trace))
+    memory::part_of(trace, 6, image_length(trace) as usize)
 }
 
+#[tactic(auto, unfolding(crate::specs::Format::event_count))]
 fn event_count(trace: &[u8]) -> u16
     ensures { result ≡ event_count trace.now }
 {
-    let length = image_length(trace);
-    big_2(
-        memory::byte_at(trace, 6 + length),
-        memory::byte_at(trace, 7 + length),
-    )
+    let length = image_length(trace) as usize;
+    u16::from_be_bytes([6 + length, 7 + length].map(|at| memory::byte_at(trace, at)))
 }
 
+#[tactic(auto, unfolding(crate::specs::Format::event_start))]
 fn event_start(trace: &[u8], i: u16) -> usize
     ensures { (result ≡ event_start trace.now i) × (result ≤ 0x1FFFFFFFF) }
 {
-    8 + image_length(trace) + 4 * (i as usize)
+    8 + image_length(trace) as usize + 4 * usize::from(i)
 }
 
-fn event_of(kind: u8, address: u16, value: u8) -> Event
-    ensures { result ≡ event_of kind address value }
+// An event's four bytes: its kind, its address, its value. No other kind is there, and what a kind has no use for is 0.
+#[tactic(auto, unfolding(crate::specs::Steps::event_in, crate::specs::Format::fits_at, crate::specs::Format::event_at, crate::specs::Format::event_of))]
+fn event_in(trace: &[u8], i: u16) -> Option<Event>
+    ensures { result ≡ event_in trace.now i }
 {
-    if kind == 0 {
-        Event::Read(address)
-    } else if kind == 1 {
-        Event::Write(address, value)
-    } else {
-        Event::Clock
+    let s = event_start(trace, i);
+    let [kind, high, low, value] = [s, s + 1, s + 2, s + 3].map(|at| memory::byte_at(trace, at));
+    let address = u16::from_be_bytes([high, low]);
+    match (kind, address, value) {
+        (0, _, 0) => Some(Event::Read(address)),
+        (1, _, _) => Some(Event::Write(address, value)),
+        (2, 0, 0) => Some(Event::Clock),
+        _ => None,
     }
-}
-
-fn fields_at(trace: &[u8], i: u16) -> Fields
-    ensures { result ≡ fields_at trace.now i }
-{
-    let start = event_start(trace, i);
-    let kind = memory::byte_at(trace, start);
-    let high = memory::byte_at(trace, start + 1);
-    let low = memory::byte_at(trace, start + 2);
-    let value = memory::byte_at(trace, start + 3);
-    Fields {
-        kind,
-        address: big_2(high, low),
-        value,
-    }
-}
-
-fn event_at(trace: &[u8], i: u16) -> Event
-    ensures { result ≡ event_at trace.now i }
-{
-    let fields = fields_at(trace, i);
-    event_of(fields.kind, fields.address, fields.value)
-}
-
-fn is_event(kind: u8, address: u16, value: u8) -> bool
-    ensures { result ≡ is_event kind address value }
-{
-    ((kind == 0) & (value == 0)) | (kind == 1) | ((kind == 2) & (address == 0) & (value == 0))
-}
-
-fn fits_at(trace: &[u8], i: u16) -> bool
-    ensures { result ≡ fits_at trace.now i }
-{
-    let fields = fields_at(trace, i);
-    is_event(fields.kind, fields.address, fields.value)
 }
 
 fn events_fit(trace: &[u8], count: u16) -> bool
     ensures { result ≡ events_fit trace.now count }
 {
-    let mut fit = true;
-    for i in 0..count {
-        fit = fit & fits_at(trace, i);
-    }
-    fit
+    (0..count).all(|i| event_in(trace, i).is_some())
 }
 
+#[tactic(auto, unfolding(crate::specs::Format::head_fits))]
 fn head_fits(trace: &[u8]) -> bool
     ensures { result ≡ head_fits trace.now }
 {
-    (memory::byte_at(trace, 0) == 1)
-        & (image_length(trace) <= 40976)
-        & (memory::byte_at(trace, 5) <= 1)
-        & (event_count(trace) <= 1024)
+    memory::byte_at(trace, 0) == 1
+        && image_length(trace) <= 40976
+        && memory::byte_at(trace, 5) <= 1
+        && event_count(trace) <= 1024
 }
 
+#[tactic(auto, unfolding(crate::specs::Format::is_trace))]
 pub fn is_trace(trace: &[u8]) -> bool
     ensures { result ≡ is_trace trace.now }
 {
     let count = event_count(trace);
-    head_fits(trace) & (trace.len() == event_start(trace, count)) & events_fit(trace, count)
+    head_fits(trace) && trace.len() == event_start(trace, count) && events_fit(trace, count)
 }
 
-// The text, written into a lent buffer from a place on. Each function gives the place after what it wrote.
+// The text. `write!` makes digits too, but its contract lets any write fail, and `RunOwes` wants every byte of a run's text.
 
-// Past the end of the text nothing is stored, and the place moves on all the same.
-fn put_all(text: &mut [u8], at: usize, bytes: &[u8]) -> usize
-    requires { Room at (length bytes.now) }
-    ensures { Puts (length bytes.now) text.old at bytes.now result text.new }
-{
-    for i in 0..bytes.len() {
-        memory::put(text, at + i, bytes[i]);
-    }
-    at + bytes.len()
-}
-
-fn digit(n: u16) -> u8
-    ensures { result ≡ digit n }
-{
-    b'0' + (n % 10) as u8
-}
-
+#[tactic(auto, unfolding(crate::specs::Text::five_digits))]
 fn five_digits(n: u16) -> [u8; 5]
     ensures { result ≡ five_digits n }
 {
-    [
-        digit(n / 10000),
-        digit(n / 1000),
-        digit(n / 100),
-        digit(n / 10),
-        digit(n),
-    ]
+    [n / 10000, n / 1000, n / 100, n / 10, n].map(|n| b'0' + (n % 10) as u8)
 }
 
+#[tactic(auto, unfolding(crate::specs::Text::leading))]
 fn leading(n: u16) -> usize
     ensures { (result ≡ leading n) × (result ≤ 4) }
 {
-    if n < 10 {
-        4
-    } else if n < 100 {
-        3
-    } else if n < 1000 {
-        2
-    } else if n < 10000 {
-        1
-    } else {
-        0
+    match n {
+        0..=9 => 4,
+        10..=99 => 3,
+        100..=999 => 2,
+        1000..=9999 => 1,
+        _ => 0,
     }
 }
 
-#[tactic(auto, unfolding(crate::specs::Text::five_digits, crate::specs::Text::decimal))]
-fn put_decimal(text: &mut [u8], at: usize, n: u16) -> usize
-    requires { Room at 5 }
-    ensures { Puts 5 text.old at (decimal n) result text.new }
-{
-    let digits = five_digits(n);
-    let from = leading(n);
-    put_all(text, at, &digits[from..])
-}
-
+#[tactic(auto, unfolding(crate::specs::Text::hex_digit))]
 fn hex_digit(n: u8) -> u8
     requires { n ≤ 15 }
     ensures { result ≡ hex_digit n }
 {
-    if n < 10 { 0x30 + n } else { 0x37 + n }
-}
-
-#[tactic(auto, unfolding(crate::specs::Text::hex))]
-fn put_hex(text: &mut [u8], at: usize, b: u8) -> usize
-    requires { Room at 6 }
-    ensures { Puts 6 text.old at (hex b) result text.new }
-{
-    let digits = [hex_digit(b / 16), hex_digit(b % 16)];
-    put_all(text, at, &digits)
-}
-
-fn put_letter(text: &mut [u8], at: usize, b: u8) -> usize
-    requires { Room at 6 }
-    ensures { Puts 6 text.old at (b ∷ []) result text.new }
-{
-    let bytes = [b];
-    put_all(text, at, &bytes)
-}
-
-fn put_refusal(text: &mut [u8], at: usize, why: Refusal) -> usize
-    requires { Room at 6 }
-    ensures { Puts 6 text.old at (refusal why) result text.new }
-{
-    let next = put_all(text, at, b"!");
-    put_decimal(text, next, why.number() as u16)
-}
-
-#[tactic(auto, unfolding(crate::specs::Text::read_text))]
-fn put_read(text: &mut [u8], at: usize, answer: ReadAnswer) -> usize
-    requires { Room at 6 }
-    ensures { Puts 6 text.old at (read_text answer) result text.new }
-{
-    match answer {
-        ReadAnswer::Byte(b) => put_hex(text, at, b),
-        ReadAnswer::Refused(why) => put_refusal(text, at, why),
+    match n {
+        0..=9 => b'0' + n,
+        _ => b'A' + (n - 10),
     }
 }
 
-fn put_notice(text: &mut [u8], at: usize, m: Mirroring) -> usize
-    requires { Room at 6 }
-    ensures { Puts 6 text.old at (notice_text m) result text.new }
-{
-    put_letter(text, at, m.letter())
-}
-
-#[tactic(auto, unfolding(crate::specs::Text::write_text))]
-fn put_write(text: &mut [u8], at: usize, answer: WriteAnswer) -> usize
-    requires { Room at 6 }
-    ensures { Puts 6 text.old at (write_text answer) result text.new }
-{
-    match answer {
-        WriteAnswer::Notice(m) => put_notice(text, at, m),
-        WriteAnswer::Quiet => put_letter(text, at, b'-'),
-        WriteAnswer::Refused(why) => put_refusal(text, at, why),
-    }
-}
-
-#[tactic(auto, unfolding(crate::specs::Text::clock_text))]
-fn put_clock(text: &mut [u8], at: usize, answer: ClockAnswer) -> usize
-    requires { Room at 6 }
-    ensures { Puts 6 text.old at (clock_text answer) result text.new }
-{
-    match answer {
-        ClockAnswer::Yes => put_letter(text, at, b'1'),
-        ClockAnswer::No => put_letter(text, at, b'0'),
-        ClockAnswer::Refused(why) => put_refusal(text, at, why),
-    }
-}
-
+// No `From`: both types are other crates'.
+#[tactic(auto, unfolding(crate::specs::Text::letter))]
 fn letter(answer: Answer) -> u8
     ensures { result ≡ letter answer }
 {
@@ -295,162 +136,201 @@ fn letter(answer: Answer) -> u8
     }
 }
 
-#[tactic(auto, unfolding(crate::specs::Text::answer_text))]
-fn put_answer(text: &mut [u8], at: usize, answer: Answer) -> usize
-    requires { Room at 6 }
-    ensures { Puts 6 text.old at (answer_text answer) result text.new }
-{
-    match answer {
-        Answer::Read(a) => put_read(text, at, a),
-        Answer::Write(a) => put_write(text, at, a),
-        Answer::Clock(a) => put_clock(text, at, a),
+// A lent buffer, and how far the text has come in it. Past the buffer's end nothing is stored, and the place moves on all the same.
+#[derive(Drop)]
+struct Text<'a> {
+    bytes: &'a mut [u8],
+    at: usize,
+}
+
+impl Text<'_> {
+    #[tactic(auto, unfolding(crate::specs::Text::laid))]
+    fn put(&mut self, byte: u8)
+        ensures { Puts (byte ∷ []) self.old self.new }
+    {
+        memory::put(self.bytes, self.at, byte);
+        self.at = self.at.saturating_add(1);
     }
-}
 
-// A letter between two spaces.
-#[tactic(auto, unfolding(crate::specs::Text::between))]
-fn put_between(text: &mut [u8], at: usize, letter: u8) -> usize
-    requires { Room at 3 }
-    ensures { Puts 3 text.old at (between letter) result text.new }
-{
-    let bytes = [b' ', letter, b' '];
-    put_all(text, at, &bytes)
-}
+    fn put_all(&mut self, bytes: &[u8])
+        ensures { Puts bytes.now self.old self.new }
+    {
+        for &byte in bytes {
+            self.put(byte);
+        }
+    }
 
-fn put_line(text: &mut [u8], at: usize, i: u16, answer: Answer) -> usize
-    requires { Room at 15 }
-    ensures { Puts 15 text.old at (line i answer) result text.new }
-{
-    let kind = put_decimal(text, at, i);
-    let answers = put_between(text, kind, letter(answer));
-    let end = put_answer(text, answers, answer);
-    put_all(text, end, b"\n")
-}
+    #[tactic(auto, unfolding(crate::specs::Text::decimal))]
+    fn put_decimal(&mut self, n: u16)
+        ensures { Puts (decimal n) self.old self.new }
+    {
+        self.put_all(&five_digits(n)[leading(n)..]);
+    }
 
-fn put_refused(text: &mut [u8], why: Refusal) -> usize
-    ensures { Puts 14 text.old 0 (refused_line why) result text.new }
-{
-    let number = put_all(text, 0, b"refused ");
-    let end = put_decimal(text, number, why.number() as u16);
-    put_all(text, end, b"\n")
-}
+    #[tactic(auto, unfolding(crate::specs::Text::hex))]
+    fn put_hex(&mut self, b: u8)
+        ensures { Puts (hex b) self.old self.new }
+    {
+        self.put_all(&[hex_digit(b / 16), hex_digit(b % 16)]);
+    }
 
-fn put_counts(text: &mut [u8], at: usize, prg: u16, chr: u16) -> usize
-    requires { Room at 12 }
-    ensures { Puts 12 text.old at (counts prg chr) result text.new }
-{
-    let space = put_decimal(text, at, prg);
-    let next = put_all(text, space, b" ");
-    let end = put_decimal(text, next, chr);
-    put_all(text, end, b"\n")
-}
+    fn put_refusal(&mut self, why: Refusal)
+        ensures { Puts (refusal why) self.old self.new }
+    {
+        self.put(b'!');
+        self.put_decimal(u16::from(u8::from(why)));
+    }
 
-fn put_loaded(text: &mut [u8], cart: Cartridge) -> usize
-    ensures { Puts 25 text.old 0 (load_line cart) result text.new }
-{
-    let mapper = cart.mapper;
-    let mirroring = cart.mirroring;
-    let number = put_all(text, 0, b"load ");
-    let screens = put_decimal(text, number, mapper.number() as u16);
-    let counts = put_between(text, screens, mirroring.letter());
-    put_counts(text, counts, cart.prg, cart.chr)
+    #[tactic(auto, unfolding(crate::specs::Text::read_text))]
+    fn put_read(&mut self, answer: ReadAnswer)
+        ensures { Puts (read_text answer) self.old self.new }
+    {
+        match answer {
+            Ok(b) => self.put_hex(b),
+            Err(why) => self.put_refusal(why),
+        }
+    }
+
+    #[tactic(auto, unfolding(crate::specs::Text::write_text, crate::specs::Text::notice_text))]
+    fn put_write(&mut self, answer: WriteAnswer)
+        ensures { Puts (write_text answer) self.old self.new }
+    {
+        match answer {
+            Ok(Some(m)) => self.put(m.letter()),
+            Ok(None) => self.put(b'-'),
+            Err(why) => self.put_refusal(why),
+        }
+    }
+
+    #[tactic(auto, unfolding(crate::specs::Text::clock_text))]
+    fn put_clock(&mut self, answer: ClockAnswer)
+        ensures { Puts (clock_text answer) self.old self.new }
+    {
+        match answer {
+            Ok(true) => self.put(b'1'),
+            Ok(false) => self.put(b'0'),
+            Err(why) => self.put_refusal(why),
+        }
+    }
+
+    #[tactic(auto, unfolding(crate::specs::Text::answer_text))]
+    fn put_answer(&mut self, answer: Answer)
+        ensures { Puts (answer_text answer) self.old self.new }
+    {
+        match answer {
+            Answer::Read(a) => self.put_read(a),
+            Answer::Write(a) => self.put_write(a),
+            Answer::Clock(a) => self.put_clock(a),
+        }
+    }
+
+    // A letter between two spaces.
+    #[tactic(auto, unfolding(crate::specs::Text::between))]
+    fn put_between(&mut self, letter: u8)
+        ensures { Puts (between letter) self.old self.new }
+    {
+        self.put_all(&[b' ', letter, b' ']);
+    }
+
+    fn put_line(&mut self, i: u16, answer: Answer)
+        ensures { Puts (line i answer) self.old self.new }
+    {
+        self.put_decimal(i);
+        self.put_between(letter(answer));
+        self.put_answer(answer);
+        self.put(b'\n');
+    }
+
+    fn put_refused(&mut self, why: Refusal)
+        ensures { Puts (refused_line why) self.old self.new }
+    {
+        self.put_all(b"refused ");
+        self.put_decimal(u16::from(u8::from(why)));
+        self.put(b'\n');
+    }
+
+    fn put_counts(&mut self, prg: u16, chr: u16)
+        ensures { Puts (counts prg chr) self.old self.new }
+    {
+        self.put_decimal(prg);
+        self.put(b' ');
+        self.put_decimal(chr);
+        self.put(b'\n');
+    }
+
+    fn put_loaded(&mut self, cart: Cartridge)
+        ensures { Puts (load_line cart) self.old self.new }
+    {
+        self.put_all(b"load ");
+        self.put_decimal(u16::from(u8::from(cart.mapper)));
+        self.put_between(cart.mirroring.letter());
+        self.put_counts(cart.prg, cart.chr);
+    }
 }
 
 // The run: the load, then each event's call and its line.
 
-fn play_event(
+// A loaded board, and what is lent to it.
+#[derive(Drop)]
+struct Machine<'a> {
     board: Board,
-    trace: &[u8],
-    i: u16,
-    prg: &mut [u8],
-    chr: &mut [u8],
-    text: &mut [u8],
-    at: usize,
-) -> Step
-    requires { Room at 15 }
-    ensures { StepOwes trace.now i (held trace.now board prg.old chr.old) at text.old result prg.new chr.new text.new }
+    image: &'a [u8],
+    prg: &'a mut [u8],
+    chr: &'a mut [u8],
+}
+
+impl Machine<'_> {
+    fn play(&mut self, event: Event) -> Answer
+        ensures { EventOwes event self.old result self.new }
+    {
+        let played = self.board.play(event, self.image, self.prg, self.chr);
+        self.board = played.left;
+        played.answer
+    }
+
+    fn play_all(&mut self, trace: &[u8], text: &mut Text)
+        requires { is_trace trace.now ≡ true }
+        ensures { EventsOwe trace.now (event_count trace.now) self.old text.old self.new text.new }
+    {
+        for i in 0..event_count(trace) {
+            // Of a well-formed trace each event is there.
+            if let Some(event) = event_in(trace, i) {
+                let answer = self.play(event);
+                text.put_line(i, answer);
+            }
+        }
+    }
+}
+
+fn run_trace(trace: &[u8], prg: &mut [u8], chr: &mut [u8], text: &mut Text)
+    requires { is_trace trace.now ≡ true }
+    ensures { ShowsRun (trace_run trace.now prg.old chr.old) text.old text.new prg.new chr.new }
 {
     let image = image_of(trace);
-    let played = board.play(event_at(trace, i), image, prg, chr);
-    let answer = played.answer;
-    let next = played.board;
-    let end = put_line(text, at, i, answer);
-    Step {
-        board: next,
-        at: end,
+    match boards::load(image, mode_of(trace), prg, chr) {
+        Ok(board) => {
+            text.put_loaded(board.cart);
+            let mut machine = Machine {
+                board,
+                image,
+                prg,
+                chr,
+            };
+            machine.play_all(trace, text);
+        }
+        Err(why) => text.put_refused(why),
     }
-}
-
-fn play_events(
-    start: Board,
-    trace: &[u8],
-    count: u16,
-    prg: &mut [u8],
-    chr: &mut [u8],
-    text: &mut [u8],
-    from: usize,
-) -> usize
-    requires { (count ≤ 1024) × (from ≤ 25) }
-    ensures { EventsOwe trace.now count (held trace.now start prg.old chr.old) from text.old result prg.new chr.new text.new }
-{
-    let mut board = start;
-    let mut at = from;
-    for i in 0..count {
-        let done = play_event(board, trace, i, prg, chr, text, at);
-        let next = done.board;
-        board = next;
-        at = done.at;
-    }
-    at
-}
-
-fn play_all(board: Board, trace: &[u8], prg: &mut [u8], chr: &mut [u8], text: &mut [u8]) -> usize
-    requires { event_count trace.now ≤ 1024 }
-    ensures { RunOwes (accepted_run trace.now (held trace.now board prg.old chr.old)) text.old result prg.new chr.new text.new }
-{
-    let cart = board.cart;
-    let count = event_count(trace);
-    let at = put_loaded(text, cart);
-    play_events(board, trace, count, prg, chr, text, at)
-}
-
-#[tactic(auto, unfolding(crate::specs::Run::loaded_run))]
-fn run_loaded(
-    answer: LoadAnswer,
-    board: Board,
-    trace: &[u8],
-    prg: &mut [u8],
-    chr: &mut [u8],
-    text: &mut [u8],
-) -> usize
-    requires { event_count trace.now ≤ 1024 }
-    ensures { RunOwes (loaded_run answer trace.now (held trace.now board prg.old chr.old)) text.old result prg.new chr.new text.new }
-{
-    match answer {
-        LoadAnswer::Accepted => play_all(board, trace, prg, chr, text),
-        LoadAnswer::Refused(why) => put_refused(text, why),
-    }
-}
-
-fn run_trace(trace: &[u8], prg: &mut [u8], chr: &mut [u8], text: &mut [u8]) -> usize
-    requires { event_count trace.now ≤ 1024 }
-    ensures { RunOwes (trace_run trace.now prg.old chr.old) text.old result prg.new chr.new text.new }
-{
-    let mode = mode_of(trace);
-    let image = image_of(trace);
-    let loaded = boards::load(image, mode, prg, chr);
-    let answer = loaded.answer;
-    let board = loaded.board;
-    run_loaded(answer, board, trace, prg, chr, text)
 }
 
 // A malformed trace is refused before any load.
 pub fn run(trace: &[u8], prg: &mut [u8], chr: &mut [u8], text: &mut [u8]) -> usize
     ensures { RunOwes (ran trace.now prg.old chr.old) text.old result prg.new chr.new text.new }
 {
+    let mut out = Text { bytes: text, at: 0 };
     if is_trace(trace) {
-        run_trace(trace, prg, chr, text)
+        run_trace(trace, prg, chr, &mut out);
     } else {
-        put_refused(text, Refusal::TraceMalformed)
+        out.put_refused(Refusal::TraceMalformed);
     }
+    out.at
 }

@@ -10,7 +10,7 @@ use cartridge::Cartridge;
 use common::Mode;
 use places::{Landing, Place};
 
-#[derive(Clone, Copy)]
+#[derive(Clone, Copy, Debug, PartialEq, Eq)]
 pub struct Uxrom {
     pub bank: u8,
 }
@@ -22,44 +22,42 @@ impl Uxrom {
         Uxrom { bank: 0 }
     }
 
+    #[tactic(auto, unfolding(places::specs::Windows::lands_in, crate::specs::Uxrom::read_window, places::specs::Windows::lands_in))]
     pub fn read_landing(self, cart: Cartridge, address: u16) -> Landing
         ensures { result ≡ lands_in cart (read_window self cart address) address }
     {
         match address {
-            0x0000..=0x1fff => places::chr_8k(cart, Bank8K(0), address),
-            0x8000..=0xbfff => places::prg_16k(cart, Bank16K(self.bank as u32), address),
-            0xc000..=0xffff => places::prg_16k(cart, Bank16K(cart.last_prg()), address),
-            _ => Landing::At(Place::Nowhere),
+            0x0000..=0x1fff => places::chr_bank(cart, Bank8K::new(0), address),
+            0x8000..=0xbfff => places::prg_bank(cart, Bank16K::new(self.bank as u32), address),
+            0xc000..=0xffff => places::prg_bank(cart, Bank16K::new(cart.last_prg()), address),
+            _ => Ok(Place::Nowhere),
         }
     }
 
-    #[tactic(auto, unfolding(crate::specs::Uxrom::write_window_in))]
+    #[tactic(auto, unfolding(crate::specs::Uxrom::write_window_in, places::specs::Windows::lands_in))]
     pub fn write_landing(self, cart: Cartridge, address: u16) -> Landing
         ensures { result ≡ lands_in cart (write_window self cart address) address }
     {
-        let mode = cart.mode;
-        match mode {
+        match cart.mode {
             Mode::House => places::house_chr_ram(cart, address),
-            Mode::Board => places::board_chr_ram(cart, Bank8K(0), address),
+            Mode::Board => places::board_chr_ram(cart, Bank8K::new(0), address),
         }
     }
 
     // The bank is the whole byte.
+    #[tactic(auto, unfolding(crate::specs::Uxrom::written, places::specs::Windows::lands_in))]
     pub fn write8(mut self, value: u8, address: u16) -> Self
         ensures { result ≡ written self value address }
     {
-        match address {
-            0x8000..=0xffff => {
-                self.bank = value;
-                self
-            }
-            _ => self,
+        if 0x8000 <= address {
+            self.bank = value;
         }
+        self
     }
 
     pub fn is_start(self) -> bool
         ensures { result ≡ is_start self }
     {
-        self.bank == 0
+        self == Uxrom::new()
     }
 }
