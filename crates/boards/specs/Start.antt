@@ -42,11 +42,11 @@ unfoldable pub load_answer : Loaded → LoadAnswer
 load_answer (Ok b) = Ok tt
 load_answer (Err why) = Err why
 
--- the load of an image, in a mode, with two RAMs of these lengths lent: the board and the answer
+-- the load of an image, in a mode, with two RAMs of these lengths lent: the board, or the refusal
 abbrev pub load : List ℕ → Mode → ℕ → ℕ → Loaded
 load s mode prg chr = loaded_board (Cartridges.load s mode prg chr)
 
--- what a load owes its caller: the reply with the board, and both RAMs
+-- what a load owes its caller: the board or the refusal, and both RAMs
 pub record LoadOwes (s : List ℕ) (mode : Mode) (prg chr : List ℕ) (r : Loaded) (prg' chr' : List ℕ) : Type 0 where
   pub reply : r ≡ load s mode (length prg) (length chr)
   pub prg_ram : prg' ≡ ram_after (verdict s mode (length prg) (length chr)) prg

@@ -78,7 +78,7 @@ fn pages_number(answer: PagesAnswer) -> u16
     answer.map_or_else(refusal, |()| 0)
 }
 
-// Eight bytes as one word, the least first.
+// Eight bytes as one word, the least first. That they are there is asked by it and by `put_word`, and by no third.
 #[tactic(auto, unfolding(crate::specs::Bytes::word_at))]
 fn word_at(s: &[u8], i: usize) -> u64
     requires { i + 8 ≤ length s.now }
@@ -147,7 +147,8 @@ fn keep(state: &mut [u8], answer: u16, w: Words)
     }
 }
 
-// A lent state: its words, the board that they hold, and whether a board could have them.
+// A lent state: its words, the board that they hold, and whether a board could have them. No Option: a refused call too hands
+// the words and the board on.
 #[derive(Clone, Copy)]
 struct State {
     words: Words,

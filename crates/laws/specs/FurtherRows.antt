@@ -289,7 +289,7 @@ rows =
     ∷ row (is_marked 0x0C) (whether false ∷ [])
     ∷ row (is_marked 0xFB) (whether true ∷ [])
     ∷ row (is_marked 0xF7) (whether false ∷ [])
-    -- the board beside a refused load is refused by every call; "In read and write: 9, 10"
+    -- the board that stands for none is refused by every call; "In read and write: 9, 10"
     ∷ row (calls_on no_board (with_rams paper.nrom) (Read 0x8000)) (number (refused_by 10) ∷ [])
     ∷ row (calls_on no_board (with_rams paper.nrom) (Write 0x8000 0)) (number (refused_by 10) ∷ [])
     ∷ row (calls_on no_board (with_rams paper.nrom) Clock) (number (refused_by 10) ∷ [])

@@ -463,8 +463,8 @@ impl Mmc1 {
         }
     }
 
-    #[tactic(auto, unfolding(crate::specs::Read::lower_prg_bank))]
     // The four banks, each a function of its own as document 01 asks, over one for PRG and one for CHR.
+    #[tactic(auto, unfolding(crate::specs::Read::lower_prg_bank))]
     pub fn lower_prg_bank(self, cart: Cartridge, image: &[u8]) -> &[u8]
         ensures { result.now ≡ lower_prg_bank self cart image.now }
     {

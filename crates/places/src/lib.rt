@@ -138,7 +138,6 @@ pub fn house_chr_ram(cart: Cartridge, address: u16) -> Landing
 }
 
 // Board mode: a byte for CHR goes where it would be read, if that is RAM; CHR ROM ignores it.
-// Board mode: a byte for CHR goes where it would be read, if that is RAM; CHR ROM ignores it.
 #[tactic(auto, unfolding(crate::specs::Steps::if_chr_ram))]
 pub fn if_chr_ram(cart: Cartridge, read: Landing) -> Landing
     ensures { result ≡ if_chr_ram cart read }
