@@ -1,7 +1,8 @@
 // Bank numbers, a type for each size of bank, and the bytes of a bank as a part of the caller's own data.
 #![tactic(auto)]
 
-ghost use Rattle.std.specs.Prelude.{◌≡◌, ◌*◌, ◌%◌};
+ghost use Rattle.std.specs.Prelude.{◌≡◌, ◌*◌, ◌%◌, [], ◌∷◌};
+ghost use Rattle.common.specs.Common.{KB1, KB4, KB8, KB16, KB32};
 ghost use Rattle.banks.specs.Banks.{shown, start_at, bank_start, bank_of};
 
 use common::{Mode, kilobytes};
@@ -19,6 +20,19 @@ pub type Bank8K = Bank<{ kilobytes::KB8 }>;
 pub type Bank16K = Bank<{ kilobytes::KB16 }>;
 
 pub type Bank32K = Bank<{ kilobytes::KB32 }>;
+
+// Where bank 1 of each starts, at its size: the clauses below hold of every size, and here the five are those of the definitions.
+pub fn sizes() -> [u64; 5]
+    ensures { result ≡ KB1 ∷ KB4 ∷ KB8 ∷ KB16 ∷ KB32 ∷ [] }
+{
+    [
+        Bank1K::new(1).offset(),
+        Bank4K::new(1).offset(),
+        Bank8K::new(1).offset(),
+        Bank16K::new(1).offset(),
+        Bank32K::new(1).offset(),
+    ]
+}
 
 impl<const SIZE: u32> Bank<SIZE> {
     pub fn new(number: u32) -> Bank<SIZE>

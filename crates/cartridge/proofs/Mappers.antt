@@ -3,7 +3,7 @@ use mathlib.Core.Path.{◌≡◌, refl, sym, ap, ◌∙◌}
 use mathlib.Core.Bool.{true}
 use native.Mathlib.Omega.{arith}
 use lib.Dec.{eqb}
-use borrow.Author.Tests.{eqb-true}
+use borrow.Author.Tests.{eqb-true, eq-eqb}
 use Rattle.cartridge.specs.Mappers.{mapper_number, is_mapper, mapper_type}
 use denote.Enum.Bare.{sameb}
 use Rattle.cartridge.specs.contracts.MapperType.{the_type}
@@ -18,6 +18,10 @@ by_number k = grind arith
 pub is_this : (k this : MapperType) → is_mapper k this ≡ true → k ≡ this
 unfolding is_mapper
 is_this k this e = sym (by_number k) ∙ ap mapper_type (eqb-true (mapper_number k) (mapper_number this) e) ∙ by_number this
+
+pub this_is : (k : MapperType) → is_mapper k k ≡ true
+unfolding is_mapper
+this_is k = eq-eqb (mapper_number k) (mapper_number k) refl
 
 -- what holds of each of the five holds of all
 pub by_mapper : (P : MapperType → Type 0) → P Nrom → P Mmc1 → P Uxrom → P Cnrom → P Mmc3 → (k : MapperType) → P k

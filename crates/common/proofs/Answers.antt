@@ -3,9 +3,11 @@ use Prim.Native.Nat.{ℕ}
 use mathlib.Core.Path.{◌≡◌, refl, ◌∙◌}
 use mathlib.Core.Bool.{true}
 use borrow.Author.Rules.{rules}
+use native.Mathlib.Omega.{arith}
+use lib.Dec.{eqb}
 use mathlib.Core.List.{[], ◌∷◌, map}
 use denote.Enum.Bare.{sameb, same_true}
-use Rattle.common.specs.Answers.{refusal_number, no, same}
+use Rattle.common.specs.Answers.{mirroring_letter, refusal_number, no, same}
 use Rattle.common.specs.declared.Refusal.{Refusal}
 use Rattle.common.specs.declared.Refusal.TheVariants.{HeaderTooShort, HeaderNotInes, ImageNotInes, MapperNotTaken, TrainerOrFourScreen, PrgCountNotTaken, ImageTooShort, CountNoPowerOfTwo, RamNot8K, StateOutOfRange, BankPastData, NoChrRam, NoSuchPlace, IrqPending, TraceMalformed, Nes2NotTaken}
 use Rattle.common.specs.contracts.Mirroring.{the_type}
@@ -49,6 +51,11 @@ by_equality Horizontal b = by_mirroring (λ (m : Mirroring). sameb the_type Hori
 by_equality Vertical b = by_mirroring (λ (m : Mirroring). sameb the_type Vertical m ≡ same Vertical m) refl refl refl refl b
 by_equality SingleScreenUpper b = by_mirroring (λ (m : Mirroring). sameb the_type SingleScreenUpper m ≡ same SingleScreenUpper m) refl refl refl refl b
 by_equality SingleScreenLower b = by_mirroring (λ (m : Mirroring). sameb the_type SingleScreenLower m ≡ same SingleScreenLower m) refl refl refl refl b
+
+-- no two of the four have one letter
+pub by_letters : (a b : Mirroring) → eqb (mirroring_letter a) (mirroring_letter b) ≡ same a b
+unfolding same
+by_letters a b = grind arith
 
 pub same_self : (m : Mirroring) → same m m ≡ true
 unfolding same

@@ -7,6 +7,7 @@ use native.Mathlib.Omega.{arith}
 use borrow.Author.Tests.{le-ltb}
 use lib.ListN.{length}
 use Prim.Native.Nat.{ℕ, ◌+◌}
+use Rattle.rules.specs.Flat.{flat_digits}
 use Rattle.common.specs.Answers.{refusal_number}
 use Rattle.common.specs.declared.Refusal.{Refusal}
 use Rattle.common.specs.declared.Refusal.TheVariants.{RamNot8K, StateOutOfRange}
@@ -17,13 +18,18 @@ use Rattle.boards.specs.Write.{write_landing, accepted_write, written_as, landin
 use Rattle.boards.specs.Clock.{clock_if}
 use Rattle.boards.specs.Write.{Written}
 use Rattle.pages.specs.Pages.{told}
-use Rattle.states.specs.Words.{words_of, board_in}
+use Rattle.states.specs.Words.{cart_sizes, mapper_of, words_of, board_in}
 use Rattle.states.specs.Kept.{is_kept}
 use Rattle.states.specs.Steps.{after_write, after_clock}
 use Rattle.states.specs.declared.Words.{Words}
 use Rattle.states.proofs.Moved.{after_write_lem, after_clock_lem}
 use Rattle.exports.specs.Bytes.{state_left}
 use Rattle.exports.specs.Numbers.{refused, clock_number, write_number, pages_number}
+
+-- the mapper that the first word names is the board's
+pub named : (w : Words) → mapper_of (flat_digits cart_sizes w.cart) ≡ (board_in w).cart.mapper
+unfolding board_in
+named w = refl
 
 module _ (s : List ℕ) (w : Words) where
   abbrev kept_as : Bool → Words → List ℕ

@@ -1,6 +1,6 @@
 -- The round trip of a board through its words, and of kept words through their board. Assumes nothing.
 use Prim.Native.Nat.{ℕ, ◌<◌, ◌≤◌}
-use mathlib.Core.Path.{◌≡◌, refl, sym, ap, ◌∙◌}
+use mathlib.Core.Path.{◌≡◌, refl, sym, ap, subst, ◌∙◌}
 use mathlib.Core.Bool.{true}
 use mathlib.Core.List.{List, [], ◌∷◌, ◌++◌}
 use mathlib.Core.Logic.{◌↔◌}
@@ -113,3 +113,7 @@ pub exactly : (w : Words) → w.length < 0x10000000000000000
     → (is_kept w ≡ true) ↔ ((b : Board) × OfItsTypes b × (in_range b ≡ true) × (words_of b ≡ w))
 unfolding is_kept
 exactly w l = just_those words_of board_in in_range same same_is same_self OfItsTypes there_and_back w (held_of_its_types w l)
+
+-- kept words are words of 64 bits, whatever of them the length is
+pub kept_of_words : (w : Words) → is_kept w ≡ true → w.length < 0x10000000000000000 → OfWords w
+kept_of_words w h l = subst OfWords (back_and_there w h) (words_of_64 (board_in w) (held_of_its_types w l) (held_in_range w h))

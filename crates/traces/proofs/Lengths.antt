@@ -73,7 +73,7 @@ unfolding stopped
 of_stopped why prg chr = of_refused_line why
 
 -- a well-formed trace has no more events than the text has room for
-few : (t : List ℕ) → is_trace t ≡ true → event_count t ≤ 1024
+pub few : (t : List ℕ) → is_trace t ≡ true → event_count t ≤ 1024
 unfolding is_trace head_fits
 few t e =
     let ends = (and_parts (head_fits t && eqb (length t) (event_start t (event_count t))) (events_fit t (event_count t)) e).0 in
