@@ -1,7 +1,7 @@
 -- What is kept of a clock or a write is its board's words, though not all are packed anew. Assumes nothing.
 use Rattle.std.specs.Prelude.{Ok, Err}
 use mathlib.Core.Path.{◌≡◌, refl, ap}
-use mathlib.Core.Bool.{Bool, true, false, cond}
+use mathlib.Core.Bool.{Bool, true, false, cond, true≢false}
 use mathlib.Core.List.{List}
 use native.Mathlib.Omega.{arith}
 use borrow.Author.Tests.{le-ltb}
@@ -13,6 +13,7 @@ use Rattle.common.specs.declared.Refusal.{Refusal}
 use Rattle.common.specs.declared.Refusal.TheVariants.{RamNot8K, StateOutOfRange}
 use Rattle.cartridge.specs.Load.{rams_fit}
 use Rattle.places.specs.Places.{Landing}
+use Rattle.boards.specs.declared.Board.{Board}
 use Rattle.boards.specs.Range.{guarded}
 use Rattle.boards.specs.Write.{write_landing, accepted_write, written_as, landing_if}
 use Rattle.boards.specs.Clock.{clock_if}
@@ -30,6 +31,12 @@ use Rattle.exports.specs.Numbers.{refused, clock_number, write_number, pages_num
 pub named : (w : Words) → mapper_of (flat_digits cart_sizes w.cart) ≡ (board_in w).cart.mapper
 unfolding board_in
 named w = refl
+
+-- a clock of a state that could not be leaves it
+pub unfit_keeps : (s : List ℕ) (t : Bool) (b : Board) → t ≡ false → s ≡ state_left s (clock_number (clock_if t b).answer) (words_of (clock_if t b).left)
+unfolding state_left clock_number refused
+unfit_keeps s true b e = absurd (true≢false e)
+unfit_keeps s false b e = refl
 
 module _ (s : List ℕ) (w : Words) where
   abbrev kept_as : Bool → Words → List ℕ

@@ -247,14 +247,17 @@ pub fn biekkarul_write_moved(
     (wrote.answer as u32) + moved_number(wrote.parts)
 }
 
-#[tactic(auto, using(crate::proofs::Keeps::clock_kept))]
+#[tactic(auto, using(crate::proofs::Keeps::clock_kept, crate::proofs::Keeps::unfit_keeps))]
 pub fn biekkarul_clock(state: &mut [u8]) -> u16
     ensures { ClockOwes state.old result state.new }
 {
     let held = State::of(state);
     let clocked = held.board.clock_if(held.fits);
     let answer = clock_number(clocked.answer);
-    keep(state, answer, held.words.after_clock(clocked.left));
+    // Asked of every state, and told by the answer's number alone, a clock took a quarter longer.
+    if held.fits {
+        keep(state, answer, held.words.after_clock(clocked.left));
+    }
     answer
 }
 

@@ -411,7 +411,7 @@ impl Mmc3 {
         regs.get(k as usize).copied().unwrap_or(0)
     }
 
-    // A number counted in 1 KB banks. The register is read once: read in each arm, a map of eight pages took 320 ns for 253.
+    // A number counted in 1 KB banks. The register is read once: read in each arm, a map of eight pages took a quarter longer.
     #[tactic(auto, unfolding(crate::specs::Read::chr_bank, crate::specs::Read::chosen))]
     fn chr_bank(self, slot: u16) -> Bank1K
         ensures { result.0 ≡ chr_bank self slot }
